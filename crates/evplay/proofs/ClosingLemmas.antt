@@ -35,9 +35,11 @@ use Rattle.script_port.specs.ScriptVouched.{last_reading, NoneWaits, PortStands,
 use Rattle.script_port.proofs.ScriptPendingLemmas.{pending_is_scripted}
 use Rattle.script_port.proofs.ScriptWaitingLemmas.{always_called, took_called}
 use Rattle.drain_laws.specs.CanDrain.{last_moment}
+use Rattle.drain_laws.specs.DrainBound.{IsOfTurns}
 use Rattle.drain_laws.proofs.CountedLemmas.{counts_are_as_told}
 use Rattle.drain_laws.proofs.PendingLemmas.{unread_is_pending}
 use Rattle.drain_laws.proofs.BufferedLemmas.{most_is_bounded}
+use Rattle.evplay.specs.Headline.{DrainsByTurns}
 use Rattle.evplay.specs.Run.{AreSmall}
 use Rattle.evplay.specs.CameTo.{counted_most, closing_plan, StandsAfter}
 use Rattle.evplay.proofs.CalledLemmas.{called-by}
@@ -208,11 +210,23 @@ module _ (g : Settings) (turns : List ScriptTurn) (step k : ℕ) (d : DriveValue
 pub record IsClosing (g : Settings) (turns : List ScriptTurn) (scripted : Trace) (plain : Plain) (t : Trace) : Type 0 where
   pub closing : Trace
   pub is : t ≡ scripted ++ closing
+  pub starts : IsOfTurns closing
   pub each : AtTurnEnds (λ z. BetweenTurns g (scripted ++ z)
       (λ s. makes_one_more turns (most_closing_turns turns g scripted plain) (scripted ++ z) s ≡ true)) closing
 
 pub closing-none : (g : Settings) (turns : List ScriptTurn) (scripted : Trace) (plain : Plain) → IsClosing g turns scripted plain scripted
-closing-none g turns scripted plain = record { closing = []; is = sym (append-nil scripted); each = ends-none _ }
+closing-none g turns scripted plain = record {
+  closing = [];
+  is = sym (append-nil scripted);
+  starts = inr refl;
+  each = ends-none _;
+}
+
+-- turns behind turns begin with one
+starts-more : (part added : Trace) → IsOfTurns part → begins_turn added ≡ true → begins_turn (part ++ added) ≡ true
+starts-more [] added starts begins = begins
+starts-more (x ∷ part) added (inl starts) begins = starts
+starts-more (x ∷ part) added (inr none) begins = absurd (cc)
 
 -- one closing turn more
 pub closing-more : (g : Settings) (turns : List ScriptTurn) (scripted : Trace) (plain : Plain) (t added : Trace) →
@@ -222,6 +236,7 @@ pub closing-more : (g : Settings) (turns : List ScriptTurn) (scripted : Trace) (
 closing-more g turns scripted plain t added so more begins once = record {
   closing = so.closing ++ added;
   is = ap (λ z. z ++ added) so.is ∙ append_assoc scripted so.closing added;
+  starts = inl (starts-more so.closing added so.starts begins);
   each = ends-grow _ so.closing added so.each
       (subst (λ z. BetweenTurns g z (λ s. makes_one_more turns (most_closing_turns turns g scripted plain) z s ≡ true)) so.is more)
       begins once;
@@ -230,14 +245,17 @@ closing-more g turns scripted plain t added so more begins once = record {
 -- A run that began with all turns of the script and a state between two turns drains its links.
 pub drains-of : (g : Settings) (turns : List ScriptTurn) (scripted : Trace) (plain : Plain) (answer : TurnAnswer) (t : Trace) →
     begun turns scripted ≡ length turns → Reaches g scripted (at Stage.Between plain) → IsClosing g turns scripted plain t →
-    DrainEnds turns g (most_closing_turns turns g scripted plain) answer t → Drains turns g answer t
-drains-of g turns scripted plain answer t all reached so ends = record {
-  scripted = scripted;
-  closing = so.closing;
-  is = so.is;
-  all = all;
-  plain = plain;
-  reached = reached;
-  each = λ before after ms bytes cut. so.each before ((entry.Turn ms, bytes) ∷ after) cut refl;
-  ends = ends;
-}
+    DrainEnds turns g (most_closing_turns turns g scripted plain) answer t → DrainsByTurns turns g answer t
+drains-of g turns scripted plain answer t all reached so ends = (run, so.starts)
+  where
+    run : Drains turns g answer t
+    run = record {
+      scripted = scripted;
+      closing = so.closing;
+      is = so.is;
+      all = all;
+      plain = plain;
+      reached = reached;
+      each = λ before after ms bytes cut. so.each before ((entry.Turn ms, bytes) ∷ after) cut refl;
+      ends = ends;
+    }

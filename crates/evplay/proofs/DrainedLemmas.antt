@@ -8,25 +8,27 @@ use Rattle.command_words.specs.declared.mode.Ending.TheVariants as ending
 use Rattle.relay_model.specs.Settings.{Settings}
 use Rattle.relay_model.specs.Answers.{TurnAnswer}
 use Rattle.relay_model.specs.Called.{NamesOpened}
-use Rattle.relay_model.specs.ClosingTurns.{Drains}
 use Rattle.relay_model.specs.Plays.{AlwaysTookAll, EndsPlayed, IsAnswered}
 use Rattle.relay_model.specs.Script.{closing_step}
 use Rattle.relay_model.proofs.DrainLemmas.{drains_in_most}
 use Rattle.relay_laws.specs.Relayed.{IsRelayed}
 use Rattle.drain_laws.specs.CanDrain.{CanDrain, IsCountable}
+use Rattle.drain_laws.proofs.BufferedLemmas.{most_is_bounded}
 use Rattle.drain_laws.proofs.DrainedLemmas.{drained_links_are_done}
-use Rattle.evplay.specs.Headline.{EndsAs, EndedEarly, IsDrained, DrainsWhereItCan}
+use Rattle.drain_laws.proofs.FewTurnLemmas.{closing_turns_are_few}
+use Rattle.drain_laws.proofs.FreeCauseLemmas.{frees_are_of_done}
+use Rattle.evplay.specs.Headline.{DrainsByTurns, EndsAs, EndedEarly, IsDrained, DrainsWhereItCan}
 use Rattle.evplay.specs.Run.{AreSmall}
 use Rattle.evplay.proofs.CountableLemmas.{countable}
 
 drained-so : (turns : List ScriptTurn) (g : Settings) (t : Trace) (links : List LinkCount) (closing : ℕ) → AreSmall turns →
     NamesOpened 0 (lines_of turns) → IsRelayed g TurnAnswer.Went t links → IsAnswered turns (closing_step g) t →
     AlwaysTookAll turns g.links [] t → EndsPlayed turns g.links (length turns + closing) TurnAnswer.Went t → CanDrain g turns →
-    Drains turns g TurnAnswer.Went t ⊎ EndedEarly turns TurnAnswer.Went t → IsDrained turns g t
+    DrainsByTurns turns g TurnAnswer.Went t ⊎ EndedEarly turns TurnAnswer.Went t → IsDrained turns g t
 drained-so turns g t links closing small names relayed answered took played can (inl drains) = record {
-  drains = drains;
-  few = drains_in_most turns g TurnAnswer.Went t drains;
-  done = drained_links_are_done g turns t links can (countable g turns small names) relayed answered took played.1 drains;
+  drains = drains.0;
+  few = drains_in_most turns g TurnAnswer.Went t drains.0;
+  done = drained_links_are_done frees_are_of_done most_is_bounded (closing_turns_are_few frees_are_of_done) g turns t links can (countable g turns small names) relayed answered took played.1 drains.0 drains.1;
 }
 drained-so turns g t links closing small names relayed answered took played can (inr early) = absurd (early.answer refl)
 

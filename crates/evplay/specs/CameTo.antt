@@ -6,7 +6,6 @@ use Rattle.ev_types.specs.Trace.{Trace}
 use Rattle.ev_types.specs.declared.plan_line.PlanLine.{PlanLine}
 use Rattle.ev_types.specs.declared.side.SideId.{SideId}
 use Rattle.relay_model.specs.Answers.{TurnAnswer}
-use Rattle.relay_model.specs.ClosingTurns.{Drains}
 use Rattle.relay_model.specs.Hooked.{AskPlanned}
 use Rattle.relay_model.specs.RatesKept.{is_turn}
 use Rattle.relay_model.specs.Settings.{Settings}
@@ -28,6 +27,7 @@ use Rattle.script_port.specs.ScriptPlan.{first_plan, ScriptPlan}
 use Rattle.script_port.specs.ScriptVouched.{NoneWaits, ScriptVouches}
 use Rattle.evplay.specs.declared.run.RunEnd.{RunEnd}
 use Rattle.evplay.specs.declared.run.RunEnd.TheVariants as run_end
+use Rattle.evplay.specs.Headline.{DrainsByTurns}
 use Rattle.evplay.specs.Run.{answer_of, TellsTurn}
 
 -- what is known of a script port and a trace by a plan
@@ -88,5 +88,5 @@ pub record CameToEnd (g : Settings) (turns : List ScriptTurn) (step : ℕ) (end 
     Type 0 where
   pub closing : ℕ
   pub came : CameTo g (length turns + closing) end (closing_plan turns step closing) d p t
-  pub drains : Drains turns g (answer_of end) t
+  pub drains : DrainsByTurns turns g (answer_of end) t
   pub tells : TellsTurn end t

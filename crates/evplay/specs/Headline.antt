@@ -19,7 +19,7 @@ use Rattle.relay_model.specs.ClosingTurns.{most_closing_turns, Drains}
 use Rattle.relay_core.specs.GivenGroups.{group_given}
 use Rattle.relay_laws.specs.Relayed.{IsRelayed}
 use Rattle.drain_laws.specs.CanDrain.{CanDrain}
-use Rattle.drain_laws.specs.DrainBound.{AllLinksDone}
+use Rattle.drain_laws.specs.DrainBound.{AllLinksDone, IsOfTurns}
 use Rattle.evplay.specs.HandedIn.{HandedIn}
 
 -- the settings of a script's run: what its lines set, and else the usual ones; its groups, and those of which its sides are members
@@ -43,11 +43,15 @@ pub record EndedEarly (turns : List ScriptTurn) (answer : TurnAnswer) (t : Trace
   pub begun : begun turns t ≤ length turns
   pub answer : answer ≢ TurnAnswer.Went
 
+-- It drains its links, and the first closing turn begins where the script's last turn ended.
+abbrev pub DrainsByTurns : List ScriptTurn → Settings → TurnAnswer → Trace → Type 0
+DrainsByTurns turns g answer t = (run : Drains turns g answer t) × IsOfTurns run.closing
+
 -- How a run ends: with the last turn of its script, and so with no closing turns; or with closing turns behind it until no link is open,
 -- or as many as the most were made.
 abbrev pub EndsAs : Ending → List ScriptTurn → Settings → TurnAnswer → ℕ → Trace → Type 0
 EndsAs ending.LastTurn turns g answer closing t = closing ≡ 0
-EndsAs ending.Drained turns g answer closing t = Drains turns g answer t ⊎ EndedEarly turns answer t
+EndsAs ending.Drained turns g answer closing t = DrainsByTurns turns g answer t ⊎ EndedEarly turns answer t
 
 -- Every link is done, after no more closing turns than 4, 10 for each byte that was not read as they began, 8 for each in buffers, and 24
 -- for each link that was open or waited to be.

@@ -36,3 +36,53 @@ pub(crate) fn big(alloc: Global, links: u32) -> Result<Vec<u8>, DriveFault>
     let mut port = ScriptPort::new(alloc, script)?;
     big_over(alloc, links, turns, settings, given, &mut seats, &mut port)
 }
+
+/// What is told of the run over a port that has not begun.
+fn big_over(
+    alloc: Global,
+    links: u32,
+    turns: usize,
+    settings: Settings,
+    given: RateGroups,
+    seats: &mut Seats,
+    port: &mut ScriptPort,
+) -> Result<Vec<u8>, DriveFault>
+    requires groups { AreGroups given }
+    requires no_hooks { (seats.old.hooks.items ≡ []) × (seats.old.gone.items ≡ []) }
+    requires script { port.old.turns ≡ (big_script_of links).turns }
+    requires settings { settings_given settings given [] ≡ settings_on (big_script_of links) no_hooks }
+    requires may_run { MayRun turns (settings_given settings given []) port.old }
+    ensures text { IfOk result (λ text. IsBigText links text.items) }
+    ensures only_memory { IfErr result (λ fault. fault ≡ Memory) }
+{
+    let step = closing_step(&settings, &given);
+    let mut drive = Drive::new(alloc, settings, given, seats)?;
+    let mut scribe = SumScribe::new();
+    let ended = make_turns(
+        turns,
+        Ending::Drained,
+        step,
+        seats,
+        &mut drive,
+        port,
+        &mut scribe,
+    );
+    told_of(alloc, links, ended, &scribe, &drive)
+}
+
+/// What is told of a run that ended so, or why it was refused.
+fn told_of(
+    alloc: Global,
+    links: u32,
+    ended: Result<RunEnd, DriveFault>,
+    scribe: &SumScribe,
+    drive: &Drive,
+) -> Result<Vec<u8>, DriveFault>
+    ensures text { IfOk result (λ text. IfErr ended (λ _. ⊥)
+        × (text.items ≡ summary_text links scribe.now.trace (lines_below drive.now.state drive.now.state.plain.opened))) }
+    ensures refused { IfErr result (λ fault. (fault ≡ Memory) ⊎ (ended ≡ Err fault)) }
+{
+    ended?;
+    let lines = link_lines(alloc, drive)?;
+    Ok(summary(alloc, links, scribe, &lines)?.into_bytes())
+}

@@ -47,6 +47,7 @@ pub fn outcome_of(
         ScriptKind::Buffers => buffers(alloc, text),
         ScriptKind::Base => base(alloc, text),
         ScriptKind::Pairs => pairs(alloc, text),
+        ScriptKind::Big(_) => Err(Status::Memory),
     }
 }
 
