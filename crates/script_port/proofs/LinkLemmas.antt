@@ -1,5 +1,5 @@
 -- What a call on one end makes of all links.
-use Rattle.std.proofs.Common.{◌≡◌, ℕ, ◌+◌, ◌-◌, ◌^◌, ◌<◌, Bool, true, false, ◌==◌, ◌&&◌, not, if◌then◌else◌, List, [], ◌∷◌, ◌++◌, length, get_or, set, map}
+use Rattle.std.proofs.Common.{◌≡◌, ℕ, ◌+◌, ◌-◌, ◌^◌, ◌<◌, Bool, true, false, ◌==◌, ◌&&◌, ◌||◌, not, if◌then◌else◌, List, [], ◌∷◌, ◌++◌, length, get_or, set, map}
 use Rattle.std.proofs.Common.{take, drop, Option, Some, None, refl, sym, ap, subst, ◌∙◌, arith}
 use Rattle.std.specs.Prelude.{slice_get, option_map}
 use Rattle.std.specs.Option.{option_map_or}
@@ -113,11 +113,16 @@ pub marks_more : (f : Want → Want) (xs ys : List Want) (i : ℕ) (d r : Want) 
 marks_more f xs ys i d r within also so_far e =
     ap (set ys i) e ∙ map_over_more f xs ys i (get_or ys i d) within so_far (get_or_default ys i d (get_or ys i d) also)
 
+-- at an end that there is not, what is left of a mark
+pub or_false : (b : Bool) → (b || false) ≡ b
+or_false true = refl
+or_false false = refl
+
 -- counting a want leaves what is marked
 pub marked-wanted : (l : LinksState) (e : SideId) (v w : Want) → marked (at_end e (wanted v) l) w ≡ marked l w
 marked-wanted l e v w =
     let reads = told-changed can_read (wanted v) (λ s. refl) false l.ends (number e) (number w.side) in
-    let writes = told-changed can_write (wanted v) (λ s. refl) false l.ends (number e) (number w.side) in
+    let writes = told-changed can_write (wanted v) (λ s. refl) l.closing l.ends (number e) (number w.side) in
     let spurs = told-changed (is_spurred l.turn) (wanted v) (λ s. refl) false l.ends (number e) (number w.side) in
     rw (reads, writes, spurs)
 

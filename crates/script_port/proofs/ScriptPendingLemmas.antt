@@ -1,5 +1,5 @@
 -- What is pending at all ends of a script port, side by side.
-use Rattle.std.proofs.Common.{◌≡◌, ℕ, zero, suc, ◌+◌, ◌*◌, List, [], ◌∷◌, ◌++◌, length, drop, Some, refl, sym, ap, subst, ◌∙◌, arith}
+use Rattle.std.proofs.Common.{◌≡◌, ℕ, zero, suc, ◌+◌, ◌*◌, List, [], ◌∷◌, ◌++◌, length, drop, map, Some, refl, sym, ap, subst, ◌∙◌, arith}
 use Rattle.std.specs.Prelude.{slice_get, sum_by}
 use Rattle.std.proofs.Math.Seq.{drop-append_seam}
 use Rattle.std.proofs.lemmas.List.Sums.{sum_by-cons}
@@ -14,8 +14,18 @@ use Rattle.relay_model.specs.Scripted.{pending}
 use Rattle.relay_model.specs.Trace.{bytes_read}
 use Rattle.script_port.specs.ScriptLinks.{links_of}
 use Rattle.script_port.specs.ScriptPlays.{PendingIsScripted}
-use Rattle.script_port.specs.ScriptState.{EndState, PortState}
+use Rattle.script_port.specs.ScriptState.{EndState, EndKept, PortState}
 use Rattle.script_port.specs.ScriptVouched.{PortStands}
+
+-- the bytes that are pending at ends as they are kept
+pub sum_of_states : (es : List EndKept) → sum_by (λ (e : EndKept). length e.state.pending) es ≡
+    sum_by (λ (s : EndState). length s.pending) (map (λ (e : EndKept). e.state) es)
+sum_of_states [] = refl
+sum_of_states (e ∷ es) =
+    let rest = sum_of_states es in
+    let one = sum_by-cons (λ (x : EndKept). length x.state.pending) e es in
+    let two = sum_by-cons (λ (s : EndState). length s.pending) e.state (map (λ (x : EndKept). x.state) es) in
+    omega (arith, rest, one, two)
 
 -- a sum over ends is the sum over their sides, counted from a link on
 by_sides : (f : EndState → ℕ) (g : SideId → ℕ) (n k : ℕ) (ss : List EndState) → length ss ≡ 2 * n →

@@ -1,7 +1,7 @@
 // The links of a script port with their ends, by the number of the side. What the script brings in is known from the
 // beginning, so that its lines take no memory.
 ghost use Rattle.std.specs.Prelude.{◌≡◌, ◌<◌, ◌==◌, ◌++◌, ◌∷◌, [], length, take, drop, map, filter, not, IfOk, OnOk, Option, None, true};
-ghost use Rattle.std.specs.Prelude.{false, if◌then◌else◌};
+ghost use Rattle.std.specs.Prelude.{false, ◌&&◌, if◌then◌else◌};
 ghost use Rattle.ev_port.specs.Ends.{got_bytes};
 ghost use Rattle.ev_port.specs.Table.{RowsStay, is_marked, named};
 ghost use Rattle.script_port.specs.ScriptEnds.{after_read, after_check, after_close_write, after_close, accepted, wanted};
@@ -309,11 +309,7 @@ impl ScriptLinks {
         if number < self.ends.len() {
             self.ends[number].poll(self.turn, want)
         } else {
-            Want {
-                can_read: false,
-                can_write: want.write && self.closing,
-                ..want
-            }
+            marked_beyond(self.closing, want)
         }
     }
 
@@ -447,6 +443,17 @@ fn beyond_answer(closing: bool, offer: usize) -> WriteAnswer
         WriteAnswer::Took(offer)
     } else {
         WriteAnswer::NotYet
+    }
+}
+
+/// A want of an end of no link of the script, with its marks.
+fn marked_beyond(closing: bool, want: Want) -> Want
+    ensures { result ≡ record want { can_read = false; can_write = want.write && closing } }
+{
+    Want {
+        can_read: false,
+        can_write: want.write && closing,
+        ..want
     }
 }
 

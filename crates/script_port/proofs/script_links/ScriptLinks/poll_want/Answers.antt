@@ -3,6 +3,7 @@ use Rattle.std.proofs.lemmas.Bool.{and_right}
 use Rattle.ev_types.specs.Sides.{number}
 use Rattle.script_port.specs.ScriptEnds.{wanted}
 use Rattle.script_port.proofs.ListLemmas.{changed_set, same_set, changed_past, part_past}
+use Rattle.script_port.proofs.LinkLemmas.{or_false}
 use Rattle.script_port.proofs.script_links.ScriptLinks.poll_want.Goals as goal
 
 pub returns-then-number-len-clause-after : goal.returns-then-number-len-clause-after
@@ -19,10 +20,10 @@ returns-then-number-len-clause-after c =
 pub returns-else-number-len-clause-marks : goal.returns-else-number-len-clause-marks
 returns-else-number-len-clause-marks c =
     let none = part_past (λ e. e.state) c.self.inside.ends.items (number c.args.want.side) (omega arith) in
-    rw (← c.self.view_is, none, and_right c.args.want.read false refl, and_right c.args.want.write false refl, c.unmarked.ensures)
+    rw (← c.self.view_is, none, and_right c.args.want.read false refl, or_false c.self.inside.closing, c.marked_beyond.ensures)
 
 pub returns-else-number-len-clause-after : goal.returns-else-number-len-clause-after
 returns-else-number-len-clause-after c =
-    let states = changed_past (λ e. e.state) (wanted c.unmarked.result) c.self.inside.ends.items (number c.args.want.side)
+    let states = changed_past (λ e. e.state) (wanted c.marked_beyond.result) c.self.inside.ends.items (number c.args.want.side)
     (omega arith) in
     rw (← c.self.view_is, states)

@@ -1,4 +1,7 @@
-use Rattle.std.proofs.Common.{◌<◌, ◌≤◌, length, arith}
+use Rattle.std.proofs.Common.{◌<◌, ◌≤◌, length, Option, sym, ap, subst, ◌∙◌, arith}
+use Rattle.ev_types.specs.ScriptTurn.{ScriptTurn}
+use Rattle.script_port.specs.ScriptPort.{begin_turn}
+use Rattle.script_port.specs.ScriptState.{PortState}
 use Rattle.script_port.proofs.TurnLemmas.{turn_there, no_turn_past, turn_brings}
 use Rattle.script_port.proofs.ScriptTurnLemmas.{closes_still}
 use Rattle.script_port.proofs.script_port.ScriptPort.begin_turn.Goals as goal
@@ -19,7 +22,7 @@ returns-then-self-len c =
 
 pub returns-else-self-len : goal.returns-else-self-len
 returns-else-self-len c =
-    let p = c.self.inside in
-    let past : length p.turns ≤ p.begun = omega arith in
-    let none = no_turn_past p.turns p.begun past in
-    rw (← c.self.view_is, none, c.begin_behind.ensures)
+    let p = c.args.self.now in
+    let past : length c.self.inside.turns ≤ c.self.inside.begun = omega arith in
+    let none = no_turn_past p.turns p.begun (subst (λ (q : PortState). length q.turns ≤ q.begun) c.self.view_is past) in
+    c.begin_behind.ensures ∙ ap (λ (o : Option ScriptTurn). begin_turn o p) (sym none)
