@@ -1,5 +1,6 @@
 -- Which calls of a script port are counted as faults.
-use Rattle.std.proofs.Common.{◌≡◌, ℕ, suc, ◌-◌, ◌^◌, Bool, true, false, ◌==◌, ◌&&◌, not, if◌then◌else◌, List, [], ◌∷◌, length, Option, Some, None, refl, ap, ◌∙◌, arith}
+use Rattle.std.proofs.Common.{◌≡◌, ℕ, suc, ◌-◌, ◌^◌, Bool, true, false, ◌==◌, ◌&&◌, not, if◌then◌else◌, List, [], ◌∷◌, length, Option}
+use Rattle.std.proofs.Common.{Some, None, refl, ap, ◌∙◌, arith}
 use Rattle.std.proofs.Common.{inl, inr}
 use Rattle.std.specs.Prelude.{slice_get, option_map}
 use Rattle.std.specs.Option.{option_map_or}
@@ -177,7 +178,8 @@ answered_faults : (l new : LinksState) (n : ℕ) (e : SideId) (from : List ℕ) 
     (is_failed_write answer)
 answered_faults l new n e from answer links is =
     end_faults l new n e (λ s. after_write s from) (λ s. is_failed_write (write_answer s (length from))) (is_failed_write answer) links
-    (ap is_failed_write is ∙ tested is_failed_write (λ s. write_answer s (length from)) (beyond_answer l.closing (length from)) (end_of l e) (beyond_none l.closing (length from)))
+    (ap is_failed_write is ∙ tested is_failed_write (λ s. write_answer s (length from)) (beyond_answer l.closing (length from))
+    (end_of l e) (beyond_none l.closing (length from)))
     (λ s. refl)
 
 pub write_faults : (l new : LinksState) (n : ℕ) (e : SideId) (from : List ℕ) (answer : WriteAnswer) → WroteAt l new e from answer →

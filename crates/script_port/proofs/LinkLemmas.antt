@@ -1,5 +1,6 @@
 -- What a call on one end makes of all links.
-use Rattle.std.proofs.Common.{◌≡◌, ℕ, ◌+◌, ◌-◌, ◌^◌, ◌<◌, Bool, true, false, ◌==◌, ◌&&◌, ◌||◌, not, if◌then◌else◌, List, [], ◌∷◌, ◌++◌, length, get_or, set, map}
+use Rattle.std.proofs.Common.{◌≡◌, ℕ, ◌+◌, ◌-◌, ◌^◌, ◌<◌, Bool, true, false, ◌==◌, ◌&&◌, ◌||◌, not, if◌then◌else◌, List, [], ◌∷◌}
+use Rattle.std.proofs.Common.{◌++◌, length, get_or, set, map}
 use Rattle.std.proofs.Common.{take, drop, Option, Some, None, refl, sym, ap, subst, ◌∙◌, arith}
 use Rattle.std.specs.Prelude.{slice_get, option_map}
 use Rattle.std.specs.Option.{option_map_or}
@@ -26,21 +27,30 @@ states es = map (λ e. e.state) es
 took : (waiting : List Bool) (turn : Option ℕ) (fails closing : Bool) (es : List EndKept) (e : SideId) (k : ℕ) (x y : EndKept)
     (from : List ℕ) → k ≡ number e → k < length es → x ≡ get_or es k x → y ≡ record x { state = after_write x.state from } →
     ◌≡◌ {A = LinksState} (record { waiting = waiting; ends = states (set es k y); turn = turn; poll_fails = fails; closing = closing })
-    (at_end e (λ s. after_write s from) (record { waiting = waiting; ends = states es; turn = turn; poll_fails = fails; closing = closing }))
+    (at_end e (λ s. after_write s from)
+    (record { waiting = waiting; ends = states es; turn = turn; poll_fails = fails; closing = closing }))
 took waiting turn fails closing es e k x y from n within read w =
     let whole = changed_set (λ e. e.state) (λ s. after_write s from) es k x y within read (ap (λ e. e.state) w) in
     rw (whole, n)
 
 answers : (waiting : List Bool) (turn : Option ℕ) (fails closing : Bool) (es : List EndKept) (e : SideId) (k : ℕ) (x : EndKept) (offer : ℕ)
     → k ≡ number e → k < length es → x ≡ get_or es k x →
-    write_answer_at (record { waiting = waiting; ends = states es; turn = turn; poll_fails = fails; closing = closing }) e offer ≡ write_answer x.state offer
+    write_answer_at (record { waiting = waiting; ends = states es; turn = turn; poll_fails = fails; closing = closing }) e offer ≡
+    write_answer x.state offer
 answers waiting turn fails closing es e k x offer n within read =
     let found = part_read (λ e. e.state) es k x within read in
     rw (← n, found)
 
 keeps : (waiting : List Bool) (turn : Option ℕ) (fails closing : Bool) (es : List EndKept) (e : SideId) (k : ℕ) (x y : EndKept) → k ≡
     number e → k < length es → x ≡ get_or es k x → length y.state.taken < 2 ^ 64 - 1 →
-    length (taken_at (record { waiting = waiting; ends = states (set es k y); turn = turn; poll_fails = fails; closing = closing }) e) < 2 ^ 64 - 1
+    length (taken_at (record {
+      waiting = waiting;
+      ends = states
+          (set es k y);
+      turn = turn;
+      poll_fails = fails;
+      closing = closing;
+    }) e) < 2 ^ 64 - 1
 keeps waiting turn fails closing es e k x y n within read h =
     let whole = changed_set (λ e. e.state) (λ _. y.state) es k x y within read refl in
     let found = part_read (λ e. e.state) es k x within read in

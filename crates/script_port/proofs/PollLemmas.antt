@@ -211,7 +211,14 @@ polled_all l ws k d within = by_line l.poll_fails
     each f one = subst (λ w. IsMarked (get_or ws k d) w) (sym (get_or-map f ws k d d within)) (one (get_or ws k d))
 
     by_line : (b : Bool) → IsMarked (get_or ws k d) (get_or (if b then map unmarked ws else map (λ w. marked l w) ws) k d)
-    by_line true = each unmarked (λ w. record { side = refl; read = refl; write = refl; can_read = λ h. absurd (cc); can_write = λ h. absurd (cc) })
+    by_line true = each unmarked (λ w. record {
+      side = refl;
+      read = refl;
+      write = refl;
+      can_read = λ h. absurd
+          (cc);
+      can_write = λ h. absurd (cc);
+    })
     by_line false = each (λ w. marked l w) (λ w. record {
       side = refl;
       read = refl;

@@ -89,7 +89,8 @@ length_of_plan turns n =
 -- no lines are left behind the last turn
 pub no_lines_now : (turns : List ScriptTurn) (n : ℕ) → length turns ≤ n → lines_of (drop (n + 1 - 1) (take (n + 1) turns)) ≡ []
 no_lines_now turns n past =
-    ap lines_of (drop_all (n + 1 - 1) (take (n + 1) turns) (subst (λ z. length z ≤ n + 1 - 1) (sym (all turns n past)) (omega (arith, past))))
+    ap lines_of (drop_all (n + 1 - 1) (take (n + 1) turns) (subst (λ z. length z ≤ n + 1 - 1) (sym (all turns n past)) (omega
+    (arith, past))))
   where
     all : (ts : List ScriptTurn) (m : ℕ) → length ts ≤ m → take (m + 1) ts ≡ ts
     all ts m h = take_all (m + 1) ts (omega (arith, h))

@@ -76,7 +76,8 @@ read_bytes side room s =
       | inr some ↦ let same = same_self side in rw (some.0, same) (append-nil (take room s.pending))
     ]
 
-pub read_stands : (closing : Bool) (waits : List Bool) (ls : List TurnLine) (t : Trace) (side : SideId) (room : ℕ) (l : LinksState) → LinksStand
+pub read_stands : (closing : Bool) (waits : List Bool) (ls : List TurnLine) (t : Trace) (side : SideId) (room : ℕ) (l : LinksState) →
+    LinksStand
     closing waits ls t l →
     LinksStand closing waits ls (t ++ (entry.Read side room (read_answer_at l side room), take room (pending_at l side)) ∷ [])
     (at_end side (λ s. after_read s room) l)
@@ -110,7 +111,8 @@ check_tells side conn.Connected = let same = same_self side in rw same refl
 check_tells side conn.Pending = refl
 check_tells side conn.Failed = refl
 
-pub check_stands : (closing : Bool) (waits : List Bool) (ls : List TurnLine) (t : Trace) (side : SideId) (l : LinksState) → LinksStand closing waits ls t l →
+pub check_stands : (closing : Bool) (waits : List Bool) (ls : List TurnLine) (t : Trace) (side : SideId) (l : LinksState) →
+    LinksStand closing waits ls t l →
     LinksStand closing waits ls (t ++ (entry.Conn side (conn_answer_at l side), []) ∷ []) (at_end side after_check l)
 check_stands closing waits ls t side l h =
     let u : Trace = (entry.Conn side (conn_answer_at l side), []) ∷ [] in
@@ -164,7 +166,8 @@ write_leaves (Some k) any sum taken from within h =
           (subst (λ n. n < 2 ^ 64 - 1) long within)),
     )
 
-pub write_stands : (closing : Bool) (waits : List Bool) (ls : List TurnLine) (t : Trace) (side : SideId) (from : List ℕ) (l : LinksState) → length
+pub write_stands : (closing : Bool) (waits : List Bool) (ls : List TurnLine) (t : Trace) (side : SideId) (from : List ℕ)
+    (l : LinksState) → length
     (taken_at (at_end side (λ s. after_write s from) l) side) < 2 ^ 64 - 1 → LinksStand closing waits ls t l →
     LinksStand closing waits ls (t ++ (
       entry.Write side (length from) (write_answer_at l side (length from)),
@@ -241,7 +244,8 @@ module _ (closing : Bool) (waits : List Bool) (ls : List TurnLine) (t : Trace) (
       end_event closing waits ls t opens in_end s (accepted true s) k refl (sym (append-nil s.taken)) (same_said s _ _ _ _ _) k.may_take
       (rw same refl) (sym (or_false s.tally.connected))
 
-  out_stands : (s : EndState) → EndStands closing waits ls t out_end s → EndStands closing waits ls (t ++ opens) out_end (accepted (not wait) s)
+  out_stands : (s : EndState) → EndStands closing waits ls t out_end s →
+      EndStands closing waits ls (t ++ opens) out_end (accepted (not wait) s)
   out_stands s k =
       let same = same_link in
       let plain = or_false (not wait) in

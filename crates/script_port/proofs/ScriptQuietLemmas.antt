@@ -173,7 +173,8 @@ wishes_kept f same [] = refl
 wishes_kept f same (w ∷ ws) = λ i. same w i ∷ wishes_kept f same ws i
 
 module _ (turns : List ScriptTurn) (t : Trace) (asked : Asked turns t) (l : LinksState) (n : ℕ)
-    (h : LinksStand (model.is_closing turns t) (links_of (lines_of turns)) (model.lines turns t) t l) (now : RunsTurn (model.lines_now turns t) n l) where
+    (h : LinksStand (model.is_closing turns t) (links_of (lines_of turns)) (model.lines turns t) t l) (now : RunsTurn
+    (model.lines_now turns t) n l) where
   mark_is : (w : Want) → model.marked turns t (wish w) ≡ record {
     side = w.side;
     read = w.read &&

@@ -46,7 +46,8 @@ pub record Said (e : SideId) (y : TurnLine) (s new : EndState) : Type 0 where
       (any || allows_all e y) (sum + allows e y) (length s.taken)
   pub write_fails : new.write_fails ≡ (s.write_fails || fails_writes e y)
   pub wait : new.wait ≡ s.wait
-  pub decision : (ds : List Bool) → s.decision ≡ decided_at false e.side ds → new.decision ≡ decided_at false e.side (ds ++ decides e.link y)
+  pub decision : (ds : List Bool) → s.decision ≡ decided_at false e.side ds →
+      new.decision ≡ decided_at false e.side (ds ++ decides e.link y)
   pub made_connected : new.tally.made_connected ≡ s.tally.made_connected
   pub connected : new.tally.connected ≡ s.tally.connected
 
@@ -74,7 +75,8 @@ decides_none o side ds h = h ∙ ap (decided_at false side) (sym (append-nil ds)
 -- a line that says nothing of an end
 unsaid : (e : SideId) (y : TurnLine) (s : EndState) → brings e y ≡ [] → ends e y ≡ false → fails_reads e y ≡ false → allows_all e y
     ≡ false → allows e y ≡ 0 → fails_writes e y ≡ false →
-    ((ds : List Bool) → s.decision ≡ decided_at false e.side ds → s.decision ≡ decided_at false e.side (ds ++ decides e.link y)) → Said e y s s
+    ((ds : List Bool) → s.decision ≡ decided_at false e.side ds → s.decision ≡ decided_at false e.side (ds ++ decides e.link y)) →
+    Said e y s s
 unsaid e y s b d r any a w decision = record {
   pending = sym (append-nil s.pending) ∙ ap (λ z. s.pending ++ z) (sym b);
   eof = sym (or_false s.eof) ∙ ap (λ z. s.eof || z) (sym d);

@@ -1,5 +1,6 @@
 -- Behind a trace that is called for, what the script says of each end and of the links is what the script port has there.
-use Rattle.std.proofs.Common.{◌≡◌, ◌⊎◌, ℕ, zero, suc, ◌+◌, ◌-◌, ◌^◌, ◌<◌, ◌≤◌, Bool, true, false, ◌==◌, ◌&&◌, ◌||◌, not, nat_le, if◌then◌else◌}
+use Rattle.std.proofs.Common.{◌≡◌, ◌⊎◌, ℕ, zero, suc, ◌+◌, ◌-◌, ◌^◌, ◌<◌, ◌≤◌, Bool, true, false, ◌==◌, ◌&&◌, ◌||◌, not, nat_le}
+use Rattle.std.proofs.Common.{if◌then◌else◌}
 use Rattle.std.proofs.Common.{List, [], ◌∷◌, ◌++◌, length, get_or, take, drop, Option, Some, None, refl, sym, ap, subst, ◌∙◌, arith}
 use Rattle.std.proofs.Common.{append_assoc, length-append, inl, inr}
 use Rattle.std.specs.Prelude.{sum_by, is_some}
@@ -290,7 +291,8 @@ module _ (turns : List ScriptTurn) (t : Trace) (asked : Asked turns t) where
         model.decision turns t e ≡ s.decision
     decided_is e s k w =
         let ds = flat_map (decides e.link) (model.lines turns t) in
-        sym (decided_out (model.is_closing turns t) e.side (get_or (links_of (lines_of turns)) e.link false) ds (sym k.wait ∙ w)) ∙ sym k.decision
+        sym (decided_out (model.is_closing turns t) e.side (get_or (links_of (lines_of turns)) e.link false) ds (sym k.wait ∙ w))
+        ∙ sym k.decision
 
     undecided_yet : (e : SideId) (s : EndState) → EndHere e s → length (model.links turns t) ≤ e.link → model.is_closing turns t ≡
         false → s.decision ≡ None

@@ -139,7 +139,8 @@ module _ (waits : List Bool) where
         beyond = λ e found. h.beyond e (none_changed side e (end_after_line l.turn x) l found);
       }
 
-  pub line_stands : (ls : List TurnLine) (t : Trace) (x : TurnLine) (l : LinksState) → LinksStand false waits ls t l → LinksStand false waits
+  pub line_stands : (ls : List TurnLine) (t : Trace) (x : TurnLine) (l : LinksState) → LinksStand false waits ls t l →
+      LinksStand false waits
       (ls ++ x ∷ []) t (after_line x l)
   line_stands ls t (line.NewLink wait) l h =
       let more = flat-push links_by ls (line.NewLink wait) in record {
@@ -168,7 +169,8 @@ module _ (waits : List Bool) where
   line_stands ls t (line.Spur side) l h = at_line ls t side (line.Spur side) l refl (λ e. refl) h
 
   -- lines in their order
-  pub lines_stand : (ls : List TurnLine) (t : Trace) (xs : List TurnLine) (l : LinksState) → LinksStand false waits ls t l → LinksStand false
+  pub lines_stand : (ls : List TurnLine) (t : Trace) (xs : List TurnLine) (l : LinksState) → LinksStand false waits ls t l →
+      LinksStand false
       waits (ls ++ xs) t (after_lines xs l)
   lines_stand ls t [] l h = subst (λ z. LinksStand false waits z t l) (sym (append-nil ls)) h
   lines_stand ls t (x ∷ xs) l h =

@@ -112,7 +112,15 @@ pub as_before : (s : EndState) → AsBefore s s
 as_before s = counts_alone s s.tally refl refl
 
 pub like : (l : LinksState) → Like l l
-like l = record { waiting = refl; turn = refl; poll_fails = refl; closing = refl; ends = λ e s found. (s, found, as_before s); none = λ e found. found }
+like l = record {
+  waiting = refl;
+  turn = refl;
+  poll_fails = refl;
+  closing = refl;
+  ends = λ e s found.
+      (s, found, as_before s);
+  none = λ e found. found;
+}
 
 pub like-at_end : (side : SideId) (f : EndState → EndState) (l : LinksState) → ((s : EndState) → AsBefore s (f s)) → Like l
     (at_end side f l)
@@ -214,7 +222,8 @@ module _ (closing : Bool) (waits : List Bool) (ls : List TurnLine) where
             (λ n. drop n (flat_map links_by ls)) (sym count),
       )
 
-  pub links_silent : (t u : Trace) (l new : LinksState) → AllSilent u → Like l new → LinksStand closing waits ls t l → LinksStand closing waits ls
+  pub links_silent : (t u : Trace) (l new : LinksState) → AllSilent u → Like l new → LinksStand closing waits ls t l →
+      LinksStand closing waits ls
       (t ++ u) new
   links_silent t u l new q k h =
       let lists = no_link t u l new q.opens k.waiting h in record {
@@ -228,7 +237,8 @@ module _ (closing : Bool) (waits : List Bool) (ls : List TurnLine) where
   -- a call on one end
   pub at_end_stands : (t u : Trace) (side : SideId) (f : EndState → EndState) (l : LinksState) → opened u ≡ 0 →
       ((e : SideId) → same_end side e ≡ false → Silent e u) →
-      ((s : EndState) → end_of l side ≡ Some s → EndStands closing waits ls t side s → EndStands closing waits ls (t ++ u) side (f s)) → LinksStand
+      ((s : EndState) → end_of l side ≡ Some s → EndStands closing waits ls t side s →
+      EndStands closing waits ls (t ++ u) side (f s)) → LinksStand
       closing waits ls t l → LinksStand closing waits ls (t ++ u) (at_end side f l)
   at_end_stands t u side f l none others here h =
       let lists = no_link t u l (at_end side f l) none refl h in record {
@@ -241,7 +251,8 @@ module _ (closing : Bool) (waits : List Bool) (ls : List TurnLine) where
                   let same : side ≡ e = same_end-eq side e own.0 in
                   let old = own.1.0 in
                   let there : end_of l side ≡ Some old = subst (λ z. end_of l z ≡ Some old) (sym same) own.1.1 in
-                  subst (λ z. EndStands closing waits ls (t ++ u) e z) (sym own.1.2) (subst (λ z. EndStands closing waits ls (t ++ u) z (f old))
+                  subst (λ z. EndStands closing waits ls (t ++ u) e z) (sym own.1.2) (subst (λ z. EndStands closing waits ls
+                  (t ++ u) z (f old))
                   same (here old there (h.ends side old there)))
               | inr same ↦ end_silent t u e s s (others e same.0) (as_before s) (h.ends e s same.1)
             ];

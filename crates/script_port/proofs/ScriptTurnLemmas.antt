@@ -31,10 +31,12 @@ use Rattle.script_port.specs.ScriptEnds.{new_end, decided, end_after_line}
 use Rattle.script_port.specs.ScriptClosing.{closing_end, closing_ends, is_announced, announced}
 use Rattle.script_port.specs.ScriptLinks.{end_of, out_end, new_ends, new_links, links_of, entered, after_line, after_lines}
 use Rattle.script_port.specs.ScriptPortView.{ClosesInOrder}
-use Rattle.script_port.specs.ScriptPort.{new_port, next_turn, clock_answer, clock_behind, begin_behind, begin_turn, count_reading, after_now}
+use Rattle.script_port.specs.ScriptPort.{new_port, next_turn, clock_answer, clock_behind, begin_behind, begin_turn, count_reading}
+use Rattle.script_port.specs.ScriptPort.{after_now}
 use Rattle.script_port.specs.ScriptNow.{RunsTurn}
 use Rattle.script_port.specs.ScriptPlan.{first_plan, closings, IsCalledBy}
-use Rattle.script_port.specs.ScriptVouched.{decided_at, EndStands, LinksStand, last_reading, PortStands, AreUnheard, ScriptVouches, VouchesOn}
+use Rattle.script_port.specs.ScriptVouched.{decided_at, EndStands, LinksStand, last_reading, PortStands, AreUnheard, ScriptVouches}
+use Rattle.script_port.specs.ScriptVouched.{VouchesOn}
 use Rattle.script_port.proofs.CallLemmas.{length-at_end}
 use Rattle.script_port.proofs.ListLemmas.{slice_get-mapped}
 use Rattle.script_port.proofs.ScriptPlayedLemmas.{lines_more, lines_of_turn, moment_next}
@@ -293,15 +295,15 @@ new_stood turns step = λ asked. record {
   many = length-new_ends (links_of (lines_of turns));
   links = subst (λ c. LinksStand c (links_of (lines_of turns)) [] [] (new_links (links_of (lines_of turns)))) (sym (not_yet
       (length turns) 0 (omega arith))) (record {
-    is_closing = refl;
-    in_order = omega arith;
-    waiting = refl;
-    ends = λ e s found.
-        let waits = links_of (lines_of turns) in
-        subst (EndStands false waits [] [] e) (sym (new_at waits e.link e.side s found)) (new_stands waits e
-        (model.undecided_at e.side (get_or waits e.link false)) refl);
-    beyond = λ e found. new_past (links_of (lines_of turns)) e.link e.side found;
-  });
+        is_closing = refl;
+        in_order = omega arith;
+        waiting = refl;
+        ends = λ e s found.
+            let waits = links_of (lines_of turns) in
+            subst (EndStands false waits [] [] e) (sym (new_at waits e.link e.side s found)) (new_stands waits e
+            (model.undecided_at e.side (get_or waits e.link false)) refl);
+        beyond = λ e found. new_past (links_of (lines_of turns)) e.link e.side found;
+      });
   now = record {
     poll = refl;
     spurs = λ e s found. refl;
@@ -410,4 +412,9 @@ closes_more turns begun closing clock step new all fits count h = record {
 }
 
 pub closes_first : (turns : ℕ) → turns < 2 ^ 64 → ClosesInOrder turns 0 0 0 0
-closes_first turns fits = record { count = omega (arith, fits); order = λ some. absurd (omega (arith, some)); moment = λ some more. absurd (omega (arith, some)) }
+closes_first turns fits = record {
+  count = omega (arith, fits);
+  order = λ some. absurd (omega
+      (arith, some));
+  moment = λ some more. absurd (omega (arith, some));
+}

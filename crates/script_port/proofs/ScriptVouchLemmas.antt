@@ -1,6 +1,8 @@
 -- With each call a script port vouches for the longer trace.
-use Rattle.std.proofs.Common.{◌≡◌, ◌⊎◌, ℕ, ◌+◌, ◌-◌, ◌^◌, ◌<◌, ◌≤◌, Bool, true, not, nat_lt, if◌then◌else◌, List, [], ◌∷◌, ◌++◌, length, take, drop, map, Option}
-use Rattle.std.proofs.Common.{Some, None, refl, sym, ap, subst, ◌∙◌, arith, append_assoc, append-nil, length-append, length-take-le, inl, inr}
+use Rattle.std.proofs.Common.{◌≡◌, ◌⊎◌, ℕ, ◌+◌, ◌-◌, ◌^◌, ◌<◌, ◌≤◌, Bool, true, not, nat_lt, if◌then◌else◌, List, [], ◌∷◌, ◌++◌}
+use Rattle.std.proofs.Common.{length, take, drop, map, Option}
+use Rattle.std.proofs.Common.{Some, None, refl, sym, ap, subst, ◌∙◌, arith, append_assoc, append-nil, length-append, length-take-le}
+use Rattle.std.proofs.Common.{inl, inr}
 use Rattle.std.specs.Prelude.{count_by, option_map}
 use Rattle.std.specs.Option.{option_map_or}
 use Rattle.std.specs.List.{flat_map}
@@ -44,7 +46,8 @@ use Rattle.script_port.proofs.ScriptTraceLemmas.{Like, like, counts_alone, like-
 use Rattle.script_port.proofs.ScriptEntryLemmas.{read_stands, check_stands, write_stands, accept_stands}
 use Rattle.script_port.proofs.ScriptSeenLemmas.{Asked, read_is, write_is, conn_is}
 use Rattle.script_port.proofs.ScriptNowLemmas.{runs-like, runs-at_end, runs-accept}
-use Rattle.script_port.proofs.ScriptQuietLemmas.{Quiet, quiet-close_write, quiet-close, quiet-unheard, unheard_is, quiet-poll, wish, poll_is}
+use Rattle.script_port.proofs.ScriptQuietLemmas.{Quiet, quiet-close_write, quiet-close, quiet-unheard, unheard_is, quiet-poll, wish}
+use Rattle.script_port.proofs.ScriptQuietLemmas.{poll_is}
 use Rattle.script_port.proofs.ScriptClockLemmas.{lines_of_plan}
 
 -- Behind a trace

@@ -10,7 +10,8 @@ pub invariant_of-self : goal.invariant_of-self
 invariant_of-self c =
     let p = c.self.inside in
     let within : p.begun < length p.turns = omega arith in
-    rw (c.apply_all.ensures, c.enter.ensures, c.lines.ensures) ((turn_brings p.turns p.begun p.links within c.self.invariant.0).1, closes_still _ _ _ _ _ _ within c.self.invariant.1)
+    rw (c.apply_all.ensures, c.enter.ensures, c.lines.ensures)
+    ((turn_brings p.turns p.begun p.links within c.self.invariant.0).1, closes_still _ _ _ _ _ _ within c.self.invariant.1)
 
 pub returns-then-self-len : goal.returns-then-self-len
 returns-then-self-len c =

@@ -7,7 +7,7 @@ use Rattle.ev_types.specs.ScriptTurn.{lines_of}
 use Rattle.script_port.proofs.TurnLemmas.{shown_turn}
 use Rattle.script_port.proofs.ListLemmas.{part_at}
 use Rattle.script_port.proofs.ScriptLemmas.{links_step, links_done, all_to_come}
-use Rattle.script_port.proofs.ScriptTurnLemmas.{new_from}
+use Rattle.script_port.proofs.ScriptTurnLemmas.{closes_first, new_from}
 use Rattle.script_port.proofs.script_port.ScriptPort.new.Goals as goal
 
 pub loop-lines-preserved : goal.loop-lines-preserved
@@ -36,10 +36,11 @@ invariant_of-result c =
     c.new-links.ensures in
     let kept = rw (← c.script.view_is) at c.in_ok-turns.ensures in
     rw kept.turns
-    (all_to_come xs c.keep.new.links
+    ((all_to_come xs c.keep.new.links
     (ap (λ (l : LinksKept). l.to_open) kept.links ∙ ap (λ (l : LinksKept). l.to_open) all_links)
     (ap (λ (l : LinksKept). l.state.ends) kept.links ∙ ap (λ (l : LinksKept). l.state.ends) all_links)
-    (ap (λ (l : LinksKept). l.to_come) kept.links ∙ ap (λ (l : LinksKept). with_all_bytes xs l.to_come) all_links))
+    (ap (λ (l : LinksKept). l.to_come) kept.links ∙ ap (λ (l : LinksKept). with_all_bytes xs l.to_come) all_links)),
+    closes_first (length turns) (omega (arith, length-map items shown_turn, c.deref-lines-items.ensures.len, ap length c.deref-lines-items.ensures.value)))
 
 pub returns-clause-vouched : goal.returns-clause-vouched
 returns-clause-vouched c =
