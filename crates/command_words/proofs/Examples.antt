@@ -6,7 +6,8 @@ use Rattle.command_words.specs.ModeGrammar.{mode_of}
 use Rattle.command_words.specs.Options.{options_in, option_word}
 use Rattle.command_words.specs.ServeGrammar.{serve_words_of}
 use Rattle.command_words.specs.Values.{addr_named, positive_within}
-use Rattle.command_words.specs.declared.mode.ScriptKind.TheVariants.{Buffers}
+use Rattle.command_words.specs.declared.mode.ScriptKind.TheVariants.{Relay, Buffers, Big}
+use Rattle.command_words.specs.declared.mode.Ending.TheVariants.{Drained}
 
 an_address : addr_named (codes "127.0.0.1:65535") ≡ Some (record { ip = 127 ∷ 0 ∷ 0 ∷ 1 ∷ []; port = 65535 })
 an_address = refl
@@ -53,3 +54,25 @@ links_are_required = refl
 
 one_mode : mode_of (codes "buffers" ∷ []) ≡ Some Buffers
 one_mode = refl
+
+drained_in_any_order : (mode_of (codes "relay" ∷ codes "--drain" ∷ []) ≡ Some (Relay Drained))
+    × (mode_of (codes "--drain" ∷ codes "relay" ∷ []) ≡ Some (Relay Drained))
+drained_in_any_order = (refl, refl)
+
+not_drained_twice : mode_of (codes "relay" ∷ codes "--drain" ∷ codes "--drain" ∷ []) ≡ None
+not_drained_twice = refl
+
+no_flag_alone : mode_of (codes "--drain" ∷ []) ≡ None
+no_flag_alone = refl
+
+no_flag_at_others : (mode_of (codes "buffers" ∷ codes "--drain" ∷ []) ≡ None) × (mode_of (codes "--drain" ∷ codes "--drain" ∷ []) ≡ None)
+no_flag_at_others = (refl, refl)
+
+most_links : mode_of (codes "big" ∷ codes "64" ∷ []) ≡ Some (Big 64)
+most_links = refl
+
+no_more : (mode_of (codes "big" ∷ codes "65" ∷ []) ≡ None) × (mode_of (codes "big" ∷ codes "0" ∷ []) ≡ None)
+no_more = (refl, refl)
+
+number_is_behind : (mode_of (codes "5" ∷ codes "big" ∷ []) ≡ None) × (mode_of (codes "relay" ∷ codes "5" ∷ []) ≡ None)
+number_is_behind = (refl, refl)

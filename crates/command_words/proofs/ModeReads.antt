@@ -1,139 +1,118 @@
--- Clap finds no fault in the words exactly where they are one word without a hyphen.
-use Rattle.std.proofs.Common.{◌≡◌, ◌≢◌, ◌∙◌, ◌==◌, ◌||◌, Bool, true, false, refl, sym, ap, ap₂, List, [], ◌∷◌, None, is_some, true≢false}
-use Rattle.std.proofs.Common.{codes, inl, inr}
-use Rattle.std.specs.Prelude.{◌⊎◌, option_and_then}
+-- Clap finds no fault in the words exactly where they are a mode word with at most one word behind it, and with the flag at most
+-- once; and the words ask for the mode that its values come to.
+use Rattle.std.proofs.Common.{◌≡◌, ◌≢◌, ◌∙◌, Bool, cond, true, false, refl, sym, ap, ap₂, subst, List, [], ◌∷◌, Option, Some, None, is_some}
+use Rattle.std.proofs.Common.{codes, fold, inl, inr, option_and_then, option_map, true≢false}
 use Rattle.std.specs.List.{list_any}
-use Rattle.clap.specs.Kinds.{Kinds}
-use Rattle.clap.specs.Matches.{first_value, found_of}
-use Rattle.clap.proofs.WalkLemmas.{first_value-rows}
+use Rattle.clap.specs.Kinds.{Kinds, or_else}
+use Rattle.clap.specs.Matches.{first_value, found_of, one_text}
+use Rattle.clap.specs.Values.{bool_text}
+use Rattle.clap.proofs.WalkLemmas.{first_value-rows, one_text-rows}
 use Rattle.clap.specs.declared.parser.matches.ArgMatches.{ArgMatches}
-use Rattle.clap.specs.Faults.{defaults_fault, fault_of, flags_fault, is_simple_and_free, level_fault, walk_fault}
-use Rattle.clap.specs.Simple.{built, is_simple, matches_of}
-use Rattle.clap.specs.Walk.{Text, first_of, nothing_held, walk, walked}
-use Rattle.clap.specs.declared.error.kind.ErrorKind.{ErrorKind}
-use Rattle.clap.specs.declared.error.kind.ErrorKind.TheVariants as kind
-use Rattle.command_words.specs.Options.{has_hyphen, is_bare}
-use Rattle.command_words.specs.ModeGrammar.{mode_named, mode_of}
+use Rattle.clap.specs.Faults.{check_fault, defaults_fault, fault_of, is_simple_and_free, level_fault, settle_fault, turn_fault, walk_fault}
+use Rattle.clap.specs.Simple.{is_simple, matches_of}
+use Rattle.clap.specs.Walk.{Row, Text, Walk, finished, first_of, nothing_held, one_of, rows_of, settled, walk, walked}
+use Rattle.command_words.specs.declared.mode.ScriptKind.{ScriptKind}
+use Rattle.command_words.specs.Options.{is_bare}
+use Rattle.command_words.specs.ModeGrammar.{mode_of}
+use Rattle.command_words.specs.ModeValues.{HasMode, mode_by}
 use Rattle.command_words.specs.Clap.{mode_app}
 use Rattle.command_words.specs.Parse.{ClapRefuses, ClapTakes}
-use Rattle.command_words.proofs.OptionRules.{row}
-use Rattle.command_words.proofs.WordViews.{AreTexts, IsLong, IsPlain, IsShort, same, word_view}
+use Rattle.command_words.proofs.WordViews.{AreTexts, word_view}
 use Rattle.command_words.proofs.ClapTurns.{no_entry, no_entry_fault}
+use Rattle.command_words.proofs.ClapReads.{is_nil}
+use Rattle.command_words.proofs.ModeWords.{Seen, nothing, one, flag, two, one_flag, flag_one, two_flag, one_flag_one, flag_two, asks, next_of}
+use Rattle.command_words.proofs.ModeWords.{mode_of-bare, mode_of-seen, or_false, seen_of}
+use Rattle.command_words.proofs.ModeTurns.{rules, shape, turned, turned-next, walk_of}
 
--- no mode begins with a hyphen
-pub mode_named-hyphen : (word : Text) → has_hyphen word ≡ true → mode_named word ≡ None
-mode_named-hyphen [] e = refl
-mode_named-hyphen (b ∷ bs) e = rw (same b 45 e) refl
+-- ---- all words
 
--- no mode is bare
-mode_named-bare : (word : Text) → is_bare word ≡ true → mode_named word ≡ None
-mode_named-bare [] e = refl
-mode_named-bare (b ∷ bs) e = go (b == 45) refl
-  where
-    go : (hyphen : Bool) → (b == 45) ≡ hyphen → mode_named (b ∷ bs) ≡ None
-    go true f = mode_named-hyphen (b ∷ bs) f
-    go false f = absurd (true≢false (sym (rw f at e)))
+-- the walk after the words, where clap finds no fault in them
+abbrev end_of : Walk → List Text → Option Walk
+end_of w words = cond (is_nil (walk_fault shape [] w words)) (Some (fold (walked rules []) w words)) None
 
-pub mode_of-bare : (words : List Text) → list_any is_bare words ≡ true → mode_of words ≡ None
-mode_of-bare [] e = refl
-mode_of-bare (word ∷ []) e = go (is_bare word) refl e
-  where
-    go : (bare : Bool) → is_bare word ≡ bare → (bare || false) ≡ true → mode_named word ≡ None
-    go true is f = mode_named-bare word is
-    go false is f = absurd (true≢false (sym f))
-mode_of-bare (word ∷ next ∷ more) e = refl
-
--- ---- the faults that clap finds
-
-abbrev fault_in : List Text → Kinds
-fault_in words = level_fault (built mode_app).top [] nothing_held words false []
-
-fault_in-is : (words : List Text) → fault_of mode_app words ≡ fault_in words
-fault_in-is words =
-    let stop = (walk (built mode_app).top.rules [] nothing_held words).stopped in
-    ap₂ (λ e f. level_fault (built mode_app).top [] nothing_held words (is_some e) f) (no_entry (built mode_app).top stop)
-    (no_entry_fault (built mode_app).top stop)
-
-no_word : fault_in [] ≡ kind.MissingRequiredArgument ∷ []
-unfolding walk_fault defaults_fault
-no_word = refl
-
-one_word : (word : Text) → IsPlain word → fault_in (word ∷ []) ≡ []
-unfolding walk_fault walked defaults_fault
-one_word word w = rw (w.more, w.long, w.short) refl
-
-its_value : (word : Text) → IsPlain word → matches_of mode_app (word ∷ []) ≡ row (codes "mode", word) ∷ []
-unfolding walked
-its_value word w = rw (w.more, w.long, w.short) refl
-
-long_first : (word : Text) (more : List Text) → IsLong word → fault_in (word ∷ more) ≡ kind.UnknownArgument ∷ []
+end_of-cons : (w : Walk) (word : Text) (more : List Text) → end_of w (word ∷ more) ≡ option_and_then (λ n. end_of n more) (turned w word)
 unfolding walk_fault
-long_first word more w = rw (w.more, w.long) refl
+end_of-cons w word more = go (turn_fault shape [] w word) (walked rules [] w word)
+  where
+    go : (ks : Kinds) (n : Walk)
+        → cond (is_nil (or_else ks (walk_fault shape [] n more))) (Some (fold (walked rules []) n more)) None
+        ≡ option_and_then (λ x. end_of x more) (cond (is_nil ks) (Some n) None)
+    go [] n = refl
+    go (k ∷ ks) n = refl
 
-short_first : (word : Text) (more : List Text) → IsShort word → fault_in (word ∷ more) ≡ kind.UnknownArgument ∷ []
-unfolding walk_fault flags_fault
-short_first word more w = rw (w.more, w.long, w.short, w.chars) refl
+end_of-nil : (w : Walk) → end_of w [] ≡ Some w
+unfolding walk_fault
+end_of-nil w = refl
 
-long_second : (word next : Text) (more : List Text) → IsPlain word → IsLong next → fault_in (word ∷ next ∷ more) ≡ kind.UnknownArgument ∷ []
-unfolding walk_fault walked
-long_second word next more v w = rw (v.more, v.long, v.short, w.more, w.long) refl
+-- clap takes the words exactly where the grammar does
+end_of-seen : (words : List Text) → AreTexts words → list_any is_bare words ≡ false → (s : Seen)
+    → end_of (walk_of s) words ≡ option_map walk_of (seen_of s words)
+end_of-seen [] texts full s = end_of-nil (walk_of s)
+end_of-seen (word ∷ more) texts full s =
+    let parts = or_false (is_bare word) (list_any is_bare more) full in
+    end_of-cons (walk_of s) word more
+    ∙ ap (option_and_then (λ n. end_of n more)) (turned-next s word (word_view word texts.0 parts.0))
+    ∙ go (next_of s word) (end_of-seen more texts.1 parts.1)
+  where
+    go : (o : Option Seen) → ((n : Seen) → end_of (walk_of n) more ≡ option_map walk_of (seen_of n more))
+        → option_and_then (λ n. end_of n more) (option_map walk_of o) ≡ option_map walk_of (option_and_then (λ n. seen_of n more) o)
+    go None e = refl
+    go (Some n) e = e n
 
-short_second : (word next : Text) (more : List Text) → IsPlain word → IsShort next
-    → fault_in (word ∷ next ∷ more) ≡ kind.UnknownArgument ∷ []
-unfolding walk_fault walked flags_fault
-short_second word next more v w = rw (v.more, v.long, v.short, w.more, w.long, w.short, w.chars) refl
+-- ---- the end of the words
 
-plain_second : (word next : Text) (more : List Text) → IsPlain word → IsPlain next
-    → fault_in (word ∷ next ∷ more) ≡ kind.UnknownArgument ∷ []
-unfolding walk_fault walked
-plain_second word next more v w = rw (v.more, v.long, v.short, w.more, w.long, w.short) refl
+-- the rows that clap has behind the last word, where it finds no fault
+abbrev rows_at : Walk → Option (List Row)
+rows_at w = cond (is_nil (or_else (settle_fault rules false w.held) (or_else (defaults_fault (settled rules w.held).rows rules)
+    (check_fault shape (finished rules w.held) false)))) (Some (finished rules w.held)) None
+
+abbrev parse_of : List Text → Option (List Row)
+parse_of words = cond (is_nil (fault_of mode_app words)) (Some (matches_of mode_app words)) None
+
+parse_of-end : (words : List Text) → parse_of words ≡ option_and_then rows_at (end_of (walk_of nothing) words)
+parse_of-end words =
+    let stop = (walk rules [] nothing_held words).stopped in
+    ap₂ (λ e f. cond (is_nil (level_fault shape [] nothing_held words (is_some e) f)) (Some (matches_of mode_app words)) None)
+    (no_entry shape stop) (no_entry_fault shape stop)
+    ∙ go (walk_fault shape [] (walk_of nothing) words) (fold (walked rules []) (walk_of nothing) words)
+  where
+    go : (ks : Kinds) (w : Walk)
+        → cond (is_nil (or_else ks (or_else (settle_fault rules false w.held) (or_else (defaults_fault (settled rules w.held).rows rules)
+        (check_fault shape (finished rules w.held) false))))) (Some (finished rules w.held)) None
+        ≡ option_and_then rows_at (cond (is_nil ks) (Some w) None)
+    go [] w = refl
+    go (k ∷ ks) w = refl
+
+-- ---- the values
+
+-- the rows have the values of the mode, and where there are none there is no mode
+abbrev Judged : Option ScriptKind → Option (List Row) → Type 0
+Judged mode None = mode ≡ None
+Judged mode (Some rows) = (drained : Bool) × (one_of (codes "drain") rows ≡ Some (bool_text drained))
+    × (mode ≡ mode_by (first_of (codes "mode") rows) (first_of (codes "count") rows) drained)
+
+judged : (s : Seen) → Judged (asks s) (rows_at (walk_of s))
+unfolding defaults_fault
+judged nothing = refl
+judged (one a) = (false, refl, refl)
+judged flag = refl
+judged (two a b) = (false, refl, refl)
+judged (one_flag a) = (true, refl, refl)
+judged (flag_one a) = (true, refl, refl)
+judged (two_flag a b) = (true, refl, refl)
+judged (one_flag_one a b) = (true, refl, refl)
+judged (flag_two a b) = (true, refl, refl)
+
+judged_words : (words : List Text) → AreTexts words → list_any is_bare words ≡ false → Judged (mode_of words) (parse_of words)
+judged_words words texts full =
+    let rows = parse_of-end words ∙ ap (option_and_then rows_at) (end_of-seen words texts full nothing) in
+    rw (mode_of-seen words, rows) (go (seen_of nothing words))
+  where
+    go : (o : Option Seen) → Judged (option_and_then asks o) (option_and_then rows_at (option_map walk_of o))
+    go None = refl
+    go (Some s) = judged s
 
 -- ---- the answers of the parse
-
-not_nil : {A : Type 0} (k : ErrorKind) → k ∷ [] ≡ [] → A
-not_nil k e = absurd (true≢false (ap (λ (ks : Kinds). elim ks [ [] ↦ false | x ∷ xs ↦ true ]) e))
-
-abbrev View : Text → Type 0
-View word = IsLong word ⊎ (IsShort word ⊎ IsPlain word)
-
-taken_one : (word : Text) → View word → fault_in (word ∷ []) ≡ []
-    → mode_named word ≡ option_and_then mode_named (first_of (codes "mode") (matches_of mode_app (word ∷ [])))
-taken_one word (inl w) e = not_nil kind.UnknownArgument (sym (long_first word [] w) ∙ e)
-taken_one word (inr (inl w)) e = not_nil kind.UnknownArgument (sym (short_first word [] w) ∙ e)
-taken_one word (inr (inr w)) e = ap (λ rows. option_and_then mode_named (first_of (codes "mode") rows)) (sym (its_value word w))
-
-taken_more : {A : Type 0} (word next : Text) (more : List Text) → View word → View next → fault_in (word ∷ next ∷ more) ≡ [] → A
-taken_more word next more (inl w) v e = not_nil kind.UnknownArgument (sym (long_first word (next ∷ more) w) ∙ e)
-taken_more word next more (inr (inl w)) v e = not_nil kind.UnknownArgument (sym (short_first word (next ∷ more) w) ∙ e)
-taken_more word next more (inr (inr w)) (inl v) e = not_nil kind.UnknownArgument (sym (long_second word next more w v) ∙ e)
-taken_more word next more (inr (inr w)) (inr (inl v)) e = not_nil kind.UnknownArgument (sym (short_second word next more w v) ∙ e)
-taken_more word next more (inr (inr w)) (inr (inr v)) e = not_nil kind.UnknownArgument (sym (plain_second word next more w v) ∙ e)
-
-or_false : (a b : Bool) → (a || b) ≡ false → (a ≡ false) × (b ≡ false)
-or_false true b e = absurd (true≢false e)
-or_false false b e = (refl, e)
-
-its_mode : (words : List Text) → AreTexts words → list_any is_bare words ≡ false → fault_of mode_app words ≡ []
-    → mode_of words ≡ option_and_then mode_named (first_of (codes "mode") (matches_of mode_app words))
-its_mode [] texts full e = not_nil kind.MissingRequiredArgument (sym no_word ∙ sym (fault_in-is []) ∙ e)
-its_mode (word ∷ []) texts full e =
-    taken_one word (word_view word texts.0 (or_false (is_bare word) false full).0) (sym (fault_in-is (word ∷ [])) ∙ e)
-its_mode (word ∷ next ∷ more) texts full e =
-    let first = or_false (is_bare word) (is_bare next || list_any is_bare more) full in
-    let second = or_false (is_bare next) (list_any is_bare more) first.1 in
-    taken_more word next more (word_view word texts.0 first.0) (word_view next texts.1.0 second.0)
-    (sym (fault_in-is (word ∷ next ∷ more)) ∙ e)
-
-refused_one : (word : Text) → View word → fault_in (word ∷ []) ≢ [] → mode_named word ≡ None
-refused_one word (inl w) fault = mode_named-hyphen word w.hyphen
-refused_one word (inr (inl w)) fault = mode_named-hyphen word w.hyphen
-refused_one word (inr (inr w)) fault = absurd (fault (one_word word w))
-
-faulty : (words : List Text) → AreTexts words → list_any is_bare words ≡ false → fault_of mode_app words ≢ [] → mode_of words ≡ None
-faulty [] texts full fault = refl
-faulty (word ∷ []) texts full fault =
-    refused_one word (word_view word texts.0 (or_false (is_bare word) false full).0) (λ none. fault (fault_in-is (word ∷ []) ∙ none))
-faulty (word ∷ next ∷ more) texts full fault = refl
 
 pub mode_is_simple : is_simple mode_app ≡ true
 mode_is_simple = refl
@@ -141,13 +120,27 @@ mode_is_simple = refl
 pub mode_is_free : is_simple_and_free mode_app ≡ true
 mode_is_free = refl
 
--- where clap takes the words, they ask for the mode that its value names
-pub mode_taken : (words : List Text) (m : ArgMatches) → AreTexts words → ClapTakes mode_app words m
-    → mode_of words ≡ option_and_then mode_named (first_value (found_of m) (codes "mode"))
+-- where clap takes the words, they ask for the mode of its values
+pub mode_taken : (words : List Text) (m : ArgMatches) → AreTexts words → ClapTakes mode_app words m → HasMode words m
 mode_taken words m texts t =
-    let value : first_value (found_of m) (codes "mode") ≡ first_of (codes "mode") (matches_of mode_app words) =
-    first_value-rows (found_of m) (codes "mode") ∙ ap (first_of (codes "mode")) (t.matches mode_is_simple).0 in
-    its_mode words texts t.full (t.fine mode_is_free) ∙ sym (ap (option_and_then mode_named) value)
+    let fine : parse_of words ≡ Some (matches_of mode_app words) =
+    ap (λ f. cond (is_nil f) (Some (matches_of mode_app words)) None) (t.fine mode_is_free) in
+    let rows : rows_of (found_of m) ≡ matches_of mode_app words = (t.matches mode_is_simple).0 in
+    let is = subst (λ o. Judged (mode_of words) o) (fine ∙ ap Some (sym rows)) (judged_words words texts t.full) in
+    record {
+      drained = is.0;
+      flag = one_text-rows (found_of m) (codes "drain") ∙ is.1;
+      mode = is.2 ∙ sym (ap₂ (λ w c. mode_by w c is.0) (first_value-rows (found_of m) (codes "mode"))
+          (first_value-rows (found_of m) (codes "count")));
+    }
+
+faulty : (words : List Text) → AreTexts words → list_any is_bare words ≡ false → fault_of mode_app words ≢ [] → mode_of words ≡ None
+faulty words texts full fault = go (fault_of mode_app words) refl
+  where
+    go : (f : Kinds) → fault_of mode_app words ≡ f → mode_of words ≡ None
+    go [] is = absurd (fault is)
+    go (k ∷ ks) is = subst (λ o. Judged (mode_of words) o)
+        (ap (λ x. cond (is_nil x) (Some (matches_of mode_app words)) None) is) (judged_words words texts full)
 
 -- where the words are refused, they ask for no mode
 pub mode_refused : (words : List Text) → AreTexts words → ClapRefuses mode_app words → mode_of words ≡ None

@@ -2,7 +2,7 @@
 use Rattle.std.specs.Prelude.{ℕ, List, [], ◌∷◌, codes, map, true, Some}
 use Rattle.clap.specs.Walk.{Rule}
 use Rattle.clap.specs.Simple.{App, new_rule, new_shape}
-use Rattle.clap.specs.declared.builder.action.ArgAction.TheVariants.{Set}
+use Rattle.clap.specs.declared.builder.action.ArgAction.TheVariants.{Set, SetTrue}
 use Rattle.command_words.specs.Options.{Named}
 use Rattle.command_words.specs.ServeGrammar.{serve_names}
 
@@ -23,9 +23,17 @@ bare_app program = app_with program []
 abbrev pub serve_app : App
 serve_app = app_with (codes "evrelay") (map option_rule serve_names)
 
--- the one word that the program that plays scripts takes
+-- the program that plays scripts takes a mode word
 abbrev pub mode_rule : Rule
 mode_rule = record (new_rule (codes "mode")) { action = Some Set; required = true }
 
+-- a word behind it
+abbrev pub count_rule : Rule
+count_rule = record (new_rule (codes "count")) { action = Some Set }
+
+-- and the flag `--drain`
+abbrev pub drain_rule : Rule
+drain_rule = record (new_rule (codes "drain")) { long = Some (codes "drain"); action = Some SetTrue }
+
 abbrev pub mode_app : App
-mode_app = app_with (codes "evplay") (mode_rule ∷ [])
+mode_app = app_with (codes "evplay") (mode_rule ∷ count_rule ∷ drain_rule ∷ [])

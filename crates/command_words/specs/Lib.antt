@@ -4,4 +4,5 @@ pub mod ServeGrammar
 pub mod Clap
 pub mod Parse
 pub mod ModeGrammar
+pub mod ModeValues
 pub mod WordsStatus

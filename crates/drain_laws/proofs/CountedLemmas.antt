@@ -47,7 +47,7 @@ below-sum t s (suc n) =
     let less = below-sum t s n in
     let place : 0 + n ≡ n = omega arith in
     let same : buffered_at s.settings t s.plain (in_side (0 + n)) + buffered_at s.settings t s.plain (out_side (0 + n))
-        ≡ underway_at t s (in_side n) + underway_at t s (out_side n) =
+    ≡ underway_at t s (in_side n) + underway_at t s (out_side n) =
     ap (λ z. underway_at t s (in_side z) + underway_at t s (out_side z)) place in
     omega (arith, last, less, same)
 

@@ -7,3 +7,10 @@ pub mod PendingLemmas
 pub mod BufferedLemmas
 pub mod FewLemmas
 pub mod FewTurnLemmas
+pub mod AnsweredTurns
+pub mod TurnPlaces
+pub mod ClockSteps
+pub mod ClosingPairs
+pub mod FreshLinks
+pub mod LinksDone
+pub mod DrainedLemmas

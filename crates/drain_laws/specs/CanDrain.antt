@@ -19,8 +19,8 @@ use Rattle.relay_model.specs.ClosingTurns.{scripted_links, brought_count, IsDrai
 abbrev pub brought_at : List ScriptTurn → SideId → List ℕ
 brought_at turns e = flat_map (brings e) (lines_of turns)
 
-abbrev pub all_brought : List ScriptTurn → ℕ
-all_brought turns = sum_by brought_count (lines_of turns)
+abbrev pub total_brought : List ScriptTurn → ℕ
+total_brought turns = sum_by brought_count (lines_of turns)
 
 -- the moment of the last turn, or 0 where there is none
 abbrev pub last_moment : List ScriptTurn → ℕ
@@ -49,7 +49,7 @@ pub record CanDrain (g : Settings) (turns : List ScriptTurn) : Type 0 where
 -- A bound on the most closing turns that there can be, by the script alone: 4, and 32 for each byte that it brings in, and 72 for each
 -- of its links.
 abbrev pub closing_turn_bound : List ScriptTurn → ℕ
-closing_turn_bound turns = 4 + 32 * all_brought turns + 72 * length (scripted_links turns)
+closing_turn_bound turns = 4 + 32 * total_brought turns + 72 * length (scripted_links turns)
 
 -- Its lines name links that it opened before, and the clock can count so many closing turns.
 pub record IsCountable (g : Settings) (turns : List ScriptTurn) : Type 0 where

@@ -1,7 +1,6 @@
 -- That closing turns bring every link to its end, and how few of them do.
-use Rattle.std.specs.Prelude.{◌≡◌, ℕ, ◌+◌, ◌*◌, ◌<◌, ◌≤◌, List, [], ◌++◌, length, sum_by}
+use Rattle.std.specs.Prelude.{◌≡◌, ◌⊎◌, ℕ, ◌+◌, ◌*◌, ◌<◌, ◌≤◌, true, List, [], ◌++◌, length, sum_by}
 use Rattle.std.specs.List.{flat_map}
-use Rattle.ev_types.specs.declared.side.SideId.{SideId}
 use Rattle.ev_types.specs.declared.status.LinkCount.{LinkCount}
 use Rattle.ev_types.specs.declared.status.LinkState.TheVariants as state
 use Rattle.ev_types.specs.ScriptTurn.{ScriptTurn, lines_of}
@@ -26,6 +25,7 @@ use Rattle.relay_state.specs.Counting.{buffered_below, open_below}
 use Rattle.relay_steps.specs.Meaning.{StandsFor}
 use Rattle.relay_laws.specs.Links.{link_state_in}
 use Rattle.relay_laws.specs.Relayed.{IsRelayed}
+use Rattle.relay_laws.specs.TurnEnds.{begins_turn}
 use Rattle.drain_laws.specs.CanDrain.{CanDrain, IsCountable, closing_turn_bound}
 
 -- In a run over a script that can be drained each free is of a side that is done.
@@ -66,8 +66,13 @@ pub record AllLinksDone (turns : List ScriptTurn) (t : Trace) : Type 0 where
   pub all_opened : opened t ≡ length (scripted_links turns)
   pub done : (link : ℕ) → link < opened t → link_state_in t link ≡ state.Done
 
--- Over a script that can be drained, a run that goes on with closing turns until it ends brings every link to its end.
+-- a part of a trace begins with a turn, or is empty
+abbrev pub IsOfTurns : Trace → Type 0
+IsOfTurns part = (begins_turn part ≡ true) ⊎ (part ≡ [])
+
+-- Over a script that can be drained, a run that goes on with closing turns until it ends brings every link to its end. For that the first
+-- closing turn begins where the script's last turn ended.
 abbrev pub DrainedLinksAreDone : Type 0
-DrainedLinksAreDone = (g : Settings) (turns : List ScriptTurn) (t : Trace) (links : List LinkCount) → CanDrain g turns → IsCountable g turns →
-    IsRelayed g TurnAnswer.Went t links → IsAnswered turns (closing_step g) t → AlwaysTookAll turns g.links [] t →
-    TookAll turns g.links t → Drains turns g TurnAnswer.Went t → AllLinksDone turns t
+DrainedLinksAreDone = (g : Settings) (turns : List ScriptTurn) (t : Trace) (links : List LinkCount) → CanDrain g turns →
+    IsCountable g turns → IsRelayed g TurnAnswer.Went t links → IsAnswered turns (closing_step g) t → AlwaysTookAll turns g.links [] t →
+    TookAll turns g.links t → (run : Drains turns g TurnAnswer.Went t) → IsOfTurns run.closing → AllLinksDone turns t

@@ -1,5 +1,6 @@
 -- A trace of a run is called for by the plan of its port.
-use Rattle.std.proofs.Common.{◌≡◌, ◌≤◌, ◌+◌, ◌++◌, ℕ, zero, suc, [], ◌∷◌, List, length, arith, refl, sym, ap, ◌∙◌, subst, append-nil, length-append}
+use Rattle.std.proofs.Common.{◌≡◌, ◌≤◌, ◌+◌, ◌++◌, ℕ, zero, suc, [], ◌∷◌, List, length, arith, refl, sym, ap, ◌∙◌, subst, append-nil}
+use Rattle.std.proofs.Common.{length-append}
 use Rattle.std.specs.Prelude.{count_by, replicate}
 use Rattle.std.proofs.lemmas.Grind.{flat_map-append}
 use Rattle.ev_types.specs.ScriptTurn.{ScriptTurn, lines_of}

@@ -1,5 +1,6 @@
 -- Closing turns of a run: how many there may be, that the next one may be announced, and that the run drains its links.
-use Rattle.std.proofs.Common.{◌≡◌, ◌⊎◌, inl, inr, ◌≤◌, ◌<◌, ◌+◌, ◌-◌, ◌*◌, ◌^◌, ◌++◌, ◌∷◌, ◌&&◌, ℕ, zero, suc, Bool, true, false, min, List, []}
+use Rattle.std.proofs.Common.{◌≡◌, ◌⊎◌, inl, inr, ◌≤◌, ◌<◌, ◌+◌, ◌-◌, ◌*◌, ◌^◌, ◌++◌, ◌∷◌, ◌&&◌, ℕ, zero, suc, Bool, true, false, min, List}
+use Rattle.std.proofs.Common.{[]}
 use Rattle.std.proofs.Common.{Option, Some, None, length, refl, sym, ap, subst, arith, ◌∙◌, append-nil, append_assoc, IfSome, All}
 use Rattle.std.specs.Prelude.{count_by, map, nat_lt, nat_le, sum_by, slice_index_or, MatchBool}
 use Rattle.std.specs.List.{flat_map}
@@ -38,7 +39,7 @@ use Rattle.drain_laws.proofs.CountedLemmas.{counts_are_as_told}
 use Rattle.drain_laws.proofs.PendingLemmas.{unread_is_pending}
 use Rattle.drain_laws.proofs.BufferedLemmas.{most_is_bounded}
 use Rattle.evplay.specs.Run.{AreSmall}
-use Rattle.evplay.specs.Runs.{counted_most, closing_plan, StandsAfter}
+use Rattle.evplay.specs.CameTo.{counted_most, closing_plan, StandsAfter}
 use Rattle.evplay.proofs.CalledLemmas.{called-by}
 use Rattle.evplay.proofs.CountableLemmas.{bound-within, moment-within, product-within, AreWithin}
 use Rattle.evplay.proofs.PlayedLemmas.{stands-there}
@@ -65,7 +66,8 @@ reading-within turns step n small =
     moments-within : (xs : List ScriptTurn) → All (λ (turn : ScriptTurn). turn.0 ≤ 2 ^ 40) xs →
         AreWithin (2 ^ 40) (map (λ (turn : ScriptTurn). turn.0) xs)
     moments-within [] h = tt
-    moments-within (x ∷ xs) h = (All-head _ x xs h, moments-within xs (All-tail _ x xs h))
+    moments-within (x ∷ xs) h =
+        (All-head (λ (turn : ScriptTurn). turn.0 ≤ 2 ^ 40) x xs h, moments-within xs (All-tail (λ (turn : ScriptTurn). turn.0 ≤ 2 ^ 40) x xs h))
 
     index-within : (xs : List ℕ) (i other : ℕ) → AreWithin (2 ^ 40) xs → other ≤ 2 ^ 40 + step * (n + 1 - length turns) →
         slice_index_or xs i other ≤ 2 ^ 40 + step * (n + 1 - length turns)

@@ -14,7 +14,7 @@ use Rattle.relay_model.specs.Settings.{GroupSet, Settings}
 use Rattle.relay_model.specs.Called.{NamesOpened}
 use Rattle.relay_model.specs.ClosingTurns.{brought_count, scripted_links}
 use Rattle.relay_model.specs.Script.{closing_step, greatest, tick_lengths}
-use Rattle.drain_laws.specs.CanDrain.{all_brought, closing_turn_bound, last_moment, IsCountable}
+use Rattle.drain_laws.specs.CanDrain.{closing_turn_bound, last_moment, IsCountable}
 use Rattle.evplay.specs.Run.{AreSmall}
 
 -- each number of a list is at most this one
@@ -45,7 +45,7 @@ step-within g = go (greatest (tick_lengths g)) most
   where
     most : greatest (tick_lengths g) ≤ 2 ^ 20
     most = greatest-from (2 ^ 20) 0 (tick_lengths g) (omega arith)
-        (within-append (2 ^ 20) _ _ (tick-within g.in_rate) (within-append (2 ^ 20) _ _ (tick-within g.out_rate) (ticks-within g.groups)))
+        (within-append (2 ^ 20) _ _ (within-append (2 ^ 20) _ _ (tick-within g.in_rate) (tick-within g.out_rate)) (ticks-within g.groups))
 
     go : (n : ℕ) → n ≤ 2 ^ 20 → (if n == 0 then 1000 else n) ≤ 2 ^ 20
     go n h = by_case (n == 0)
@@ -77,7 +77,8 @@ brought-same (x ∷ xs) =
 last-within : (m : ℕ) (o : Option ℕ) (turns : List ScriptTurn) → IfSome o (λ n. n ≤ m) → All (λ (turn : ScriptTurn). turn.0 ≤ m) turns →
     IfSome (last_or o (map (λ (turn : ScriptTurn). turn.0) turns)) (λ n. n ≤ m)
 last-within m o [] h all = h
-last-within m o (x ∷ turns) h all = last-within m (Some x.0) turns (All-head _ x turns all) (All-tail _ x turns all)
+last-within m o (x ∷ turns) h all = last-within m (Some x.0) turns (All-head (λ (turn : ScriptTurn). turn.0 ≤ m) x turns all)
+    (All-tail (λ (turn : ScriptTurn). turn.0 ≤ m) x turns all)
 
 or-zero : (m : ℕ) (o : Option ℕ) → IfSome o (λ n. n ≤ m) → unwrap_or o 0 ≤ m
 or-zero m None h = omega arith

@@ -29,7 +29,7 @@ use Rattle.script_port.proofs.ScriptWaitingLemmas.{always_called, took_called}
 use Rattle.evplay.specs.HandedIn.{HandedIn}
 use Rattle.evplay.specs.Headline.{EndsAs, IsRun, settings_on, script_run}
 use Rattle.evplay.specs.Run.{answer_of, script_over, MayRun}
-use Rattle.evplay.specs.Runs.{CameTo, EndedAt, PortKnown, StandsAfter, closing_plan, point_of}
+use Rattle.evplay.specs.CameTo.{CameTo, EndedAt, PortKnown, StandsAfter, closing_plan, point_of}
 use Rattle.evplay.specs.declared.run.RunEnd.{RunEnd}
 use Rattle.evplay.specs.declared.run.RunEnd.TheVariants as run_end
 use Rattle.evplay.proofs.CalledLemmas.{called-by}

@@ -1,5 +1,6 @@
 -- What a text spells is small: its moments are at most 2^40, and it opens at most 256 links.
-use Rattle.std.proofs.Common.{◌≡◌, ◌≤◌, ◌<◌, ◌+◌, ◌*◌, ◌^◌, ℕ, Bool, true, false, ◌&&◌, ◌||◌, not, nat_lt, List, [], ◌∷◌, ◌++◌, length, codes}
+use Rattle.std.proofs.Common.{◌≡◌, ◌≤◌, ◌<◌, ◌+◌, ◌*◌, ◌^◌, ℕ, Bool, true, false, ◌&&◌, ◌||◌, not, nat_lt, List, [], ◌∷◌, ◌++◌, length}
+use Rattle.std.proofs.Common.{codes}
 use Rattle.std.proofs.Common.{Option, Some, None, Ok, refl, sym, ap, ◌∙◌, subst, arith, if◌then◌else◌, length-append}
 use Rattle.std.specs.Prelude.{All, IfSome, option_map, option_and_then}
 use Rattle.std.specs.List.{flat_map}
@@ -86,18 +87,21 @@ said-soon (first ∷ more) =
 
 -- The lines so far
 
+abbrev IsEarly : ScriptTurn → Type 0
+IsEarly turn = turn.0 ≤ 2 ^ 40
+
 -- the moments so far are at most 2^40, and the links at most 256
 record IsSmallSoFar (turns : List ScriptTurn) : Type 0 where
-  moments : All (λ (turn : ScriptTurn). turn.0 ≤ 2 ^ 40) turns
+  moments : All IsEarly turns
   links : opened (lines_of turns) ≤ 256
 
-moments-with_line : (turns : List ScriptTurn) (x : TurnLine) → All (λ (turn : ScriptTurn). turn.0 ≤ 2 ^ 40) turns →
-    All (λ (turn : ScriptTurn). turn.0 ≤ 2 ^ 40) (with_line turns x)
+moments-with_line : (turns : List ScriptTurn) (x : TurnLine) → All IsEarly turns →
+    All IsEarly (with_line turns x)
 moments-with_line [] x h = h
-moments-with_line (t ∷ []) x h = All-cons (λ (turn : ScriptTurn). turn.0 ≤ 2 ^ 40) (t.0, t.1 ++ x ∷ []) [] (All-head _ t [] h) (All-nil _)
+moments-with_line (t ∷ []) x h = All-cons IsEarly (t.0, t.1 ++ x ∷ []) [] (All-head IsEarly t [] h) (All-nil IsEarly)
 moments-with_line (t ∷ next ∷ more) x h =
-    All-cons (λ (turn : ScriptTurn). turn.0 ≤ 2 ^ 40) t (with_line (next ∷ more) x) (All-head _ t (next ∷ more) h)
-    (moments-with_line (next ∷ more) x (All-tail _ t (next ∷ more) h))
+    All-cons IsEarly t (with_line (next ∷ more) x) (All-head IsEarly t (next ∷ more) h)
+    (moments-with_line (next ∷ more) x (All-tail IsEarly t (next ∷ more) h))
 
 opened-push : (xs : List TurnLine) (x : TurnLine) → opened (xs ++ x ∷ []) ≡ opened xs + opened (x ∷ [])
 opened-push xs x =
@@ -138,8 +142,8 @@ extended-small s new (line.At ms) soon small h = at_case (nat_lt (length s.turns
   where
     longer : IsSmallSoFar (s.turns ++ (ms, []) ∷ [])
     longer = record {
-      moments = All-append (λ (turn : ScriptTurn). turn.0 ≤ 2 ^ 40) s.turns ((ms, []) ∷ []) small.moments
-          (All-cons (λ (turn : ScriptTurn). turn.0 ≤ 2 ^ 40) (ms, []) [] soon (All-nil _));
+      moments = All-append IsEarly s.turns ((ms, []) ∷ []) small.moments
+          (All-cons IsEarly (ms, []) [] soon (All-nil IsEarly));
       links = subst (λ z. opened z ≤ 256) (sym (lines_of-turn s.turns ms)) small.links;
     }
 
@@ -191,7 +195,7 @@ pub are-small : (text : List ℕ) (script : ScriptValue) → script_of text ≡ 
     2 * all_brought (lines_of script.turns) ≤ length text → AreSmall script.turns
 are-small text script h most half =
     let read = script_of-read text script h in
-    let start : IsSmallSoFar no_line.turns = record { moments = All-nil _; links = omega arith } in
+    let start : IsSmallSoFar no_line.turns = record { moments = All-nil IsEarly; links = omega arith } in
     let small : IsSmallSoFar script.turns = subst (λ (z : ScriptValue). IsSmallSoFar z.turns) read.is
     (keeps-lines (λ s. IsSmallSoFar s.turns) said-small no_line read.so_far 0 (lines text) start read.read) in
     let links = small.links in

@@ -1,5 +1,6 @@
 -- One turn more of a run: it is not worn, and the run stands between two turns again, or the turn ended it.
-use Rattle.std.proofs.Common.{◌≡◌, ◌≤◌, ◌<◌, ◌+◌, ◌*◌, ◌^◌, ◌++◌, ℕ, false, Option, Some, None, [], length, refl, sym, ap, subst, arith, ◌∙◌, inl}
+use Rattle.std.proofs.Common.{◌≡◌, ◌≤◌, ◌<◌, ◌+◌, ◌*◌, ◌^◌, ◌++◌, ℕ, false, Option, Some, None, [], length, refl, sym, ap, subst, arith}
+use Rattle.std.proofs.Common.{◌∙◌, inl}
 use Rattle.std.specs.Prelude.{count_by, unwrap_or, IsSomeAnd}
 use Rattle.ev_types.specs.Growth.{Grew}
 use Rattle.ev_types.specs.Trace.{Trace}
@@ -32,7 +33,7 @@ use Rattle.script_port.specs.ScriptState.{PortState}
 use Rattle.script_port.specs.ScriptTold.{port_told, ends_told}
 use Rattle.script_port.specs.ScriptVouched.{NoneWaits, ScriptVouches}
 use Rattle.evplay.specs.Run.{first_drive, MayRun}
-use Rattle.evplay.specs.Runs.{PortKnown, StandsAfter, EndedAt}
+use Rattle.evplay.specs.CameTo.{PortKnown, StandsAfter, EndedAt}
 use Rattle.evplay.specs.declared.run.RunEnd.{RunEnd}
 use Rattle.evplay.specs.declared.run.RunEnd.TheVariants as run_end
 

@@ -1,5 +1,5 @@
 // Closing turns: by how much the clock goes on in each, how many there may be, and a run that makes them.
-ghost use Rattle.std.specs.Prelude.{◌≡◌, ◌+◌, ◌*◌, ◌-◌, ◌^◌, Ok, IfOk, IfErr, IsSomeAnd, List, length, max, min};
+ghost use Rattle.std.specs.Prelude.{◌≡◌, ◌+◌, ◌*◌, ◌-◌, ◌^◌, Ok, IfOk, IfErr, IsSomeAnd, List, fold, length, map, max, min};
 ghost use Rattle.std.specs.Option.{option_map_or};
 ghost use Rattle.ev_types.specs.ScriptTurn.{lines_of};
 ghost use Rattle.ev_types.specs.declared.plan_line.PlanLine.{PlanLine};
@@ -12,12 +12,13 @@ ghost use Rattle.relay_drive.specs.Seats.{telling, AreSeated};
 ghost use Rattle.program_end.specs.Planned.{AllToldOf};
 ghost use Rattle.script_port.specs.ScriptPlan.{first_plan};
 ghost use Rattle.evplay.specs.Run.{AreSmall};
-ghost use Rattle.evplay.specs.Runs.{counted_most, CameToEnd, StandsAfter, ToldTo};
+ghost use Rattle.evplay.specs.CameTo.{counted_most, CameToEnd, StandsAfter, ToldTo};
 
 use crate::run::RunEnd;
 use crate::turns::end_by;
 use ev_port::Scribe;
 use ev_types::Settings;
+use rate_group::GroupSet;
 use relay_drive::{Drive, DriveFault, RateGroups, Seats, TurnEnd};
 use script_port::ScriptPort;
 use token_bucket::LimitCfg;
@@ -35,16 +36,25 @@ fn longer_tick(tick: u64, limit: Option<LimitCfg>) -> u64
     }
 }
 
+/// The longest of a tick and of those of some groups. Linear in the groups.
+fn longest_tick(tick: u64, groups: &[GroupSet]) -> u64
+    ensures { result ≡ fold (λ most n. max most n) tick (map (λ group. group.cfg.tick_ms) groups.now) }
+{
+    let mut longest = tick;
+    for group in groups {
+        longest = longest.max(group.cfg.tick_ms());
+    }
+    longest
+}
+
 /// By how much the clock goes on with each closing turn, in milliseconds: the longest tick of the limits of sides and of groups, or a
 /// second where there is none. Linear in the groups.
 pub(crate) fn closing_step(settings: &Settings, given: &RateGroups) -> u64
     ensures { (hooks : List SideId) → result ≡ closing_step (settings_given settings.now given.now hooks) }
 {
-    let mut step = longer_tick(longer_tick(0, settings.in_rate), settings.out_rate);
-    for group in &given.groups {
-        step = longer_tick(step, Some(group.cfg));
-    }
-    if step == 0 { SECOND_MS } else { step }
+    let of_sides = longer_tick(longer_tick(0, settings.in_rate), settings.out_rate);
+    let longest = longest_tick(of_sides, &given.groups);
+    if longest == 0 { SECOND_MS } else { longest }
 }
 
 /// The most closing turns: 4, and 10 for each byte that was not read, 8 for each in buffers, and 24 for each link that is open or waits to

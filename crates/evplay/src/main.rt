@@ -3,6 +3,7 @@
 //! `play_program` does all that the program does; `main` hands it the words and the streams, and hands on its status.
 #![tactic(auto)]
 
+mod closing;
 mod hooks;
 mod input;
 mod outcome;
@@ -10,6 +11,7 @@ mod play;
 mod program;
 mod run;
 mod status;
+mod turns;
 
 use command_words::program_words;
 use ev_port::{StdSink, StdSource};

@@ -11,7 +11,7 @@ use crate::run::run;
 use crate::status::{buffers_status, script_status};
 use base_mode::play_base;
 use buffers_mode::play_buffers;
-use command_words::ScriptKind;
+use command_words::{Ending, ScriptKind};
 use ev_types::Status;
 use pairs_mode::play_pairs;
 use program_end::fault_status;
@@ -43,7 +43,7 @@ pub fn outcome_of(
     ensures refused { IfErr result (λ status. Refuses mode text.now status) }
 {
     match mode {
-        ScriptKind::Relay => relay(alloc, text, hooks),
+        ScriptKind::Relay(how) => relay(alloc, text, how, hooks),
         ScriptKind::Buffers => buffers(alloc, text),
         ScriptKind::Base => base(alloc, text),
         ScriptKind::Pairs => pairs(alloc, text),
@@ -51,18 +51,23 @@ pub fn outcome_of(
 }
 
 /// What the script of links that the text spells comes to.
-fn relay(alloc: Global, text: &[u8], hooks: Vec<Box<dyn Hook>>) -> Result<Outcome, Status>
+fn relay(
+    alloc: Global,
+    text: &[u8],
+    how: Ending,
+    hooks: Vec<Box<dyn Hook>>,
+) -> Result<Outcome, Status>
     requires short { length text.now ≤ 2 ^ 24 }
     requires fresh { All (IsFresh (telling (λ h. heard h) (λ h. asked h) (λ h. planned h))) hooks.items }
-    ensures comes_to { IfOk result (λ outcome. ComesTo Relay
+    ensures comes_to { IfOk result (λ outcome. ComesTo (Relay how)
         (handed_in (telling (λ h. heard h) (λ h. asked h) (λ h. planned h)) hooks.items) text.now outcome.status outcome.text.items) }
-    ensures refused { IfErr result (λ status. Refuses Relay text.now status) }
+    ensures refused { IfErr result (λ status. Refuses (Relay how) text.now status) }
 {
     let script = match read_script(alloc, text) {
         Ok(script) => script,
         Err(fault) => return Err(script_status(fault)),
     };
-    match run(alloc, script, hooks) {
+    match run(alloc, script, how, hooks) {
         Ok((text, end)) => Ok(Outcome {
             text,
             status: end.status(),

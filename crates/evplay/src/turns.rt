@@ -12,7 +12,7 @@ ghost use Rattle.script_text.specs.Script.{ScriptValue};
 ghost use Rattle.evplay.specs.HandedIn.{HandedIn, HasSeats};
 ghost use Rattle.evplay.specs.Headline.{settings_on, IsRun};
 ghost use Rattle.evplay.specs.Run.{answer_of, first_drive, refused_by, script_over, MayRun, TellsTurn};
-ghost use Rattle.evplay.specs.Runs.{CameTo, ToldTo};
+ghost use Rattle.evplay.specs.CameTo.{CameTo, ToldTo};
 
 use crate::closing::make_closing_turns;
 use crate::run::RunEnd;

@@ -2,3 +2,4 @@ pub mod ListPart
 pub mod ComplaintLemmas
 pub mod TurnCountLemmas
 pub mod PlannedLemmas
+pub mod StopLemmas

@@ -50,7 +50,7 @@ use Rattle.relay_serve.specs.Served.{turns_told}
 use Rattle.relay_serve.specs.Underway.{TurnsWent, TurnsEnd, TurnsCut, IsServedOut, RanTo, Reported, ended_as}
 use Rattle.relay_serve.specs.declared.run.ServeEnd.{ServeEnd}
 use Rattle.relay_serve.specs.declared.run.ServeEnd.TheVariants as serve_end
-use Rattle.relay_serve.proofs.StopLemmas.{never_stopped}
+use Rattle.program_end.proofs.StopLemmas.{never_stopped}
 use Rattle.relay_serve.proofs.TurnsLemmas.{built}
 
 -- a sum of which the whole is 0

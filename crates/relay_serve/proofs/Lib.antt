@@ -1,3 +1,2 @@
-pub mod StopLemmas
 pub mod TurnsLemmas
 pub mod EndLemmas

@@ -17,7 +17,10 @@ pub mod ScriptAnswerLemmas
 pub mod ScriptSeenLemmas
 pub mod ScriptQuietLemmas
 pub mod ScriptNowLemmas
+pub mod ScriptClockLemmas
 pub mod ScriptVouchLemmas
+pub mod ScriptTurnLemmas
+pub mod ScriptPendingLemmas
 pub mod FailLemmas
 pub mod ScriptWaitingLemmas
 pub mod ScriptSpelledLemmas

@@ -106,7 +106,7 @@ slice_get-mapped f (s ∷ ss) (suc k) = slice_get-mapped f ss k
 
 -- where the first ones are changed, changing the next one
 pub changed-next : {S : Type 0} (f : S → S) (ss : List S) (k : ℕ) → changed k f (map f (take k ss) ++ drop k ss) ≡
-    map f (take (k + 1) ss) ++ drop (k + 1) ss
+    map f (take (suc k) ss) ++ drop (suc k) ss
 changed-next f [] zero = refl
 changed-next f [] (suc k) = refl
 changed-next f (s ∷ ss) zero = refl

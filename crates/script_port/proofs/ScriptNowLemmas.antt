@@ -10,9 +10,12 @@ use Rattle.ev_types.specs.declared.turn_line.TurnLine.TheVariants as line
 use Rattle.relay_model.specs.Lines.{marks_all, fails_poll}
 use Rattle.script_port.specs.ScriptState.{EndState, LinksState}
 use Rattle.script_port.specs.ScriptEnds.{end_after_line, same_turn, is_spurred, accepted}
-use Rattle.script_port.specs.ScriptLinks.{at_end, out_end, after_line, after_lines, entered, accept_first}
+use Rattle.ev_types.specs.Sides.{number}
+use Rattle.script_port.specs.ScriptLinks.{end_of, at_end, out_end, after_line, after_lines, entered, accept_first}
 use Rattle.script_port.specs.ScriptNow.{RunsTurn}
-use Rattle.script_port.proofs.ScriptStandLemmas.{any-push, end_changed, from_some}
+use Rattle.script_port.specs.ScriptClosing.{closing_end, closing_ends}
+use Rattle.script_port.proofs.ListLemmas.{slice_get-mapped}
+use Rattle.script_port.proofs.ScriptStandLemmas.{any-push, end_changed, map_some, from_some}
 use Rattle.script_port.proofs.ScriptTraceLemmas.{or_false, Like}
 
 -- Calls
@@ -68,6 +71,18 @@ runs-entered now k l h = record {
   poll = refl;
   spurs = λ e s found. fresh k s.spurred (h.earlier e s found);
   earlier = λ e s found turn is. let before = h.earlier e s found turn is in omega (arith, before);
+}
+
+-- A closing turn has no lines.
+pub runs-closing : (now : List TurnLine) (k : ℕ) (l : LinksState) → RunsTurn now k l → RunsTurn [] (k + 1)
+    (closing_ends (entered None l))
+runs-closing now k l h = record {
+  poll = refl;
+  spurs = λ e s found. refl;
+  earlier = λ e s found turn is.
+      let old = map_some closing_end (end_of l e) s (sym (slice_get-mapped closing_end l.ends (number e)) ∙ found) in
+      let before = h.earlier e old.0 old.1 turn (ap (λ (z : EndState). z.spurred) (sym old.2) ∙ is) in
+      omega (arith, before);
 }
 
 -- One line

@@ -21,10 +21,9 @@ use Rattle.script_port.specs.ScriptState.{LinksState}
 use Rattle.script_port.specs.ScriptLinks.{links_of, marked, unmarked, can_read_at, can_write_at, is_spurred_at}
 use Rattle.script_port.specs.ScriptPort.{poll_marks}
 use Rattle.script_port.specs.ScriptNow.{RunsTurn}
-use Rattle.relay_model.specs.Called.{IsCalledFor}
 use Rattle.script_port.specs.ScriptVouched.{LinksStand}
 use Rattle.script_port.proofs.ScriptTraceLemmas.{AllSilent, silent-append, silent-none}
-use Rattle.script_port.proofs.ScriptSeenLemmas.{can_read_is, can_write_is, spurs_are}
+use Rattle.script_port.proofs.ScriptSeenLemmas.{Asked, can_read_is, can_write_is, spurs_are}
 
 -- entries that say nothing, and begin no turn
 pub record Quiet (u : Trace) : Type 0 where
@@ -173,8 +172,8 @@ wishes_kept : (f : Want → Want) → ((w : Want) → wish (f w) ≡ wish w) →
 wishes_kept f same [] = refl
 wishes_kept f same (w ∷ ws) = λ i. same w i ∷ wishes_kept f same ws i
 
-module _ (turns : List ScriptTurn) (t : Trace) (asked : IsCalledFor turns t) (l : LinksState) (n : ℕ)
-    (h : LinksStand (links_of (lines_of turns)) (model.lines turns t) t l) (now : RunsTurn (model.lines_now turns t) n l) where
+module _ (turns : List ScriptTurn) (t : Trace) (asked : Asked turns t) (l : LinksState) (n : ℕ)
+    (h : LinksStand (model.is_closing turns t) (links_of (lines_of turns)) (model.lines turns t) t l) (now : RunsTurn (model.lines_now turns t) n l) where
   mark_is : (w : Want) → model.marked turns t (wish w) ≡ record {
     side = w.side;
     read = w.read &&

@@ -212,7 +212,7 @@ undecides link connected In at h o ds k = k
 undecides link connected Out at h o ds k =
     elim (cases_Bool (link == at)) [
       | inl same ↦ absurd (let both : (true && true) ≡ false = sym (ap (λ b. b && true) same) ∙ h in cc)
-      | inr other ↦ subst (λ b. o ≡ decided_at Out (ds ++ (if b then connected ∷ [] else []))) (sym other) (decides_none o Out ds k)
+      | inr other ↦ subst (λ b. o ≡ decided_at false Out (ds ++ (if b then connected ∷ [] else []))) (sym other) (decides_none o Out ds k)
     ]
 
 -- a line that names another end, or none

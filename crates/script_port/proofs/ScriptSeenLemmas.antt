@@ -1,5 +1,5 @@
 -- Behind a trace that is called for, what the script says of each end and of the links is what the script port has there.
-use Rattle.std.proofs.Common.{◌≡◌, ℕ, zero, suc, ◌+◌, ◌-◌, ◌^◌, ◌<◌, ◌≤◌, Bool, true, false, ◌==◌, ◌&&◌, ◌||◌, not, nat_le, if◌then◌else◌}
+use Rattle.std.proofs.Common.{◌≡◌, ◌⊎◌, ℕ, zero, suc, ◌+◌, ◌-◌, ◌^◌, ◌<◌, ◌≤◌, Bool, true, false, ◌==◌, ◌&&◌, ◌||◌, not, nat_le, if◌then◌else◌}
 use Rattle.std.proofs.Common.{List, [], ◌∷◌, ◌++◌, length, get_or, take, drop, Option, Some, None, refl, sym, ap, subst, ◌∙◌, arith}
 use Rattle.std.proofs.Common.{append_assoc, length-append, inl, inr}
 use Rattle.std.specs.Prelude.{sum_by, is_some}
@@ -9,7 +9,7 @@ use Rattle.std.proofs.lemmas.Bool.{cases_lt, cases_Bool}
 use Rattle.std.proofs.lemmas.List.Folds.{list_any-append}
 use Rattle.std.proofs.lemmas.Grind.{flat_map-append}
 use Rattle.std.proofs.lemmas.Bool.Decides.{eqb_tells, leb_tells}
-use Rattle.std.proofs.lemmas.List.{take-append-drop}
+use Rattle.std.proofs.lemmas.List.{take_all, take-append-drop}
 use Rattle.std.proofs.lemmas.List.Sums.{sum_by-append, sum_by-cons}
 use Rattle.std.proofs.Math.Seq.{take-nil, drop-nil, drop-append_seam}
 use Rattle.ev_types.specs.declared.side.Side.{Side}
@@ -32,8 +32,8 @@ use Rattle.ev_port.specs.Ends.{took_bytes}
 use Rattle.script_port.specs.ScriptState.{EndState, LinksState}
 use Rattle.script_port.specs.ScriptEnds.{read_answer, can_read, can_write, is_spurred, taken_of, write_answer, conn_answer}
 use Rattle.script_port.specs.ScriptLinks.{end_of, links_of, read_answer_at, pending_at, can_read_at, can_write_at, is_spurred_at}
-use Rattle.script_port.specs.ScriptLinks.{write_answer_at, conn_answer_at}
-use Rattle.relay_model.specs.Called.{NamesOpened, OpensInOrder, IsCalledFor}
+use Rattle.script_port.specs.ScriptLinks.{beyond_answer, write_answer_at, conn_answer_at}
+use Rattle.relay_model.specs.Called.{NamesOpened, OpensInOrder}
 use Rattle.script_port.specs.ScriptVouched.{decided_at, EndStands, LinksStand}
 use Rattle.script_port.specs.ScriptNow.{RunsTurn}
 use Rattle.script_port.proofs.ScriptLemmas.{links_of-append}
@@ -90,31 +90,61 @@ write_none true true = refl
 write_none true false = refl
 write_none false connected = refl
 
-decided_none : (side : Side) → decided_at side [] ≡ None
+decided_none : (side : Side) → decided_at false side [] ≡ None
 decided_none In = refl
 decided_none Out = refl
 
 -- only Out ends are undecided
-decided_out : (side : Side) (u : Bool) (ds : List Bool) → model.undecided_at side u ≡ true → decided_at side ds ≡ model.first_or None ds
-decided_out In u ds h = absurd (cc)
-decided_out Out u ds h = refl
+decided_out : (closing : Bool) (side : Side) (u : Bool) (ds : List Bool) → model.undecided_at side u ≡ true →
+    decided_at closing side ds ≡ model.first_or (if closing then Some true else None) ds
+decided_out closing In u ds h = absurd (cc)
+decided_out closing Out u ds h = refl
+
+never : (b : Bool) → (b && false) ≡ false
+never true = refl
+never false = refl
+
+-- an end of which no line says anything takes all in closing turns, and else nothing
+lets_far : (closing : Bool) (allowed given offer : ℕ) → allowed ≡ 0 → at_most (lets (closing || false) allowed given) offer ≡
+    (if closing then offer else 0)
+lets_far true allowed given offer none = refl
+lets_far false allowed given offer none = omega (arith, none)
+
+-- so it answers a write
+writes_far : (closing : Bool) (most : Option ℕ) (from : List ℕ) → at_most most (length from) ≡ (if closing then length from else 0) →
+    writes most false from ≡ (beyond_answer closing (length from), took_bytes (beyond_answer closing (length from)) from)
+writes_far false most from is = let test : nat_le 1 (at_most most (length from)) ≡ false = ap (nat_le 1) is ∙ one_le 0 in rw test refl
+writes_far true most from is =
+    elim (eqb_tells (length from) 0) [
+      | inl none ↦
+          let test : nat_le 1 (at_most most (length from)) ≡ false = ap (nat_le 1) is ∙ one_le (length from) ∙ ap not none.0 in
+          rw (test, none.0) refl
+      | inr some ↦
+          let test : nat_le 1 (at_most most (length from)) ≡ true = ap (nat_le 1) is ∙ one_le (length from) ∙ ap not some.0 in
+          rw (test, some.0, is) refl
+    ]
+
+-- and so a poll marks it
+marks_far : (closing : Bool) → (nat_le 1 (if closing then 1 else 0) || false) ≡ closing
+marks_far true = refl
+marks_far false = refl
+
+-- What the calls of a port ask of its script and of the trace: its lines name opened links, and links are numbered in order.
+pub record Asked (turns : List ScriptTurn) (t : Trace) : Type 0 where
+  pub lines : NamesOpened 0 (lines_of turns)
+  pub in_order : OpensInOrder t
 
 undecided_none : (side : Side) → model.undecided_at side false ≡ false
 undecided_none In = refl
 undecided_none Out = refl
 
-module _ (turns : List ScriptTurn) (t : Trace) (asked : IsCalledFor turns t) where
+module _ (turns : List ScriptTurn) (t : Trace) (asked : Asked turns t) where
   -- the lines so far, as the port has them
   abbrev pub so_far : List TurnLine
   so_far = lines_of (take (model.begun turns t) turns)
 
   abbrev to_come : List TurnLine
   to_come = lines_of (drop (model.begun turns t) turns)
-
-  not_closing : model.is_closing turns t ≡ false
-  not_closing =
-      let few = asked.turns_left in
-      elim (leb_tells (suc (length turns)) (model.begun turns t)) [ inl h ↦ absurd (let a = h.1 in omega (arith, a, few)) | inr h ↦ h.0 ]
 
   -- the links so far begin the links of the script
   pub links_are : model.links turns t ≡ links_of so_far
@@ -150,7 +180,7 @@ module _ (turns : List ScriptTurn) (t : Trace) (asked : IsCalledFor turns t) whe
       or_right true b k = absurd (cc)
       or_right false b k = k
 
-  module _ (l : LinksState) (h : LinksStand (links_of (lines_of turns)) (model.lines turns t) t l) where
+  module _ (l : LinksState) (h : LinksStand (model.is_closing turns t) (links_of (lines_of turns)) (model.lines turns t) t l) where
     -- an end beyond all links of the script
     beyond : (e : SideId) → end_of l e ≡ None → length (model.links turns t) ≤ e.link
     beyond e found = let all = h.beyond e found in let whole = ap length links_whole in let parts = length-append
@@ -196,23 +226,26 @@ module _ (turns : List ScriptTurn) (t : Trace) (asked : IsCalledFor turns t) whe
             ∙ ap (λ b. b || s.read_fails || s.eof) (one_le (length s.pending))
 
     -- what the script lets an end take
-    lets_is : (e : SideId) → model.may_take turns t e ≡ lets (list_any (allows_all e) (model.lines turns t))
+    lets_is : (e : SideId) → model.may_take turns t e ≡ lets (model.is_closing turns t || list_any (allows_all e) (model.lines turns t))
         (sum_by (allows e) (model.lines turns t)) (length (bytes_given e t))
-    lets_is e = ap (λ b. if b || list_any (allows_all e) (model.lines turns t) then None else Some
-        (sum_by (allows e) (model.lines turns t) - length (bytes_given e t))) not_closing
+    lets_is e = refl
+
+    no_writes : (e : SideId) → length (model.links turns t) ≤ e.link → model.writes_fail turns t e ≡ false
+    no_writes e far = (λ i. not (model.is_closing turns t) && (unsaid e far).writes i) ∙ never (not (model.is_closing turns t))
 
     writes_are : (e : SideId) (o : Option EndState) → end_of l e ≡ o → model.writes_fail turns t e ≡ option_map_or
         (λ (s : EndState). s.write_fails) o false
-    writes_are e None found = (λ i. not (not_closing i) && (unsaid e (beyond e found)).writes i)
-    writes_are e (Some s) found = (λ i. not (not_closing i) && sym (h.ends e s found).write_fails i)
+    writes_are e None found = no_writes e (beyond e found)
+    writes_are e (Some s) found = sym (h.ends e s found).write_fails
 
-    -- of an end of which nothing is said nothing is taken
-    takes_none : (e : SideId) (offer : ℕ) → length (model.links turns t) ≤ e.link → at_most (model.may_take turns t e) offer ≡ 0
-    takes_none e offer far =
+    -- what an end takes of which nothing is said
+    takes_far : (e : SideId) (offer : ℕ) → length (model.links turns t) ≤ e.link → at_most (model.may_take turns t e) offer ≡
+        (if model.is_closing turns t then offer else 0)
+    takes_far e offer far =
         let un = unsaid e far in
-        let nothing : sum_by (allows e) (model.lines turns t) ≡ 0 = un.allows in
-        ap (λ o. at_most o offer) (lets_is e ∙ (λ i. lets (un.any i) (sum_by (allows e) (model.lines turns t))
-        (length (bytes_given e t)))) ∙ omega (arith, nothing)
+        (λ i. at_most (lets (model.is_closing turns t || un.any i) (sum_by (allows e) (model.lines turns t))
+        (length (bytes_given e t))) offer)
+        ∙ lets_far (model.is_closing turns t) (sum_by (allows e) (model.lines turns t)) (length (bytes_given e t)) offer un.allows
 
     pub write_is : (e : SideId) (from : List ℕ) → ((s : EndState) → end_of l e ≡ Some s → length s.taken + taken_of s.may_take
         (length from) < 2 ^ 64 - 1) →
@@ -220,29 +253,30 @@ module _ (turns : List ScriptTurn) (t : Trace) (asked : IsCalledFor turns t) whe
     write_is e from fits = by_end (end_of l e) refl
       where
         by_end : (o : Option EndState) → end_of l e ≡ o → model.write_answer turns t e from ≡ (
-          option_map_or (λ (s : EndState). write_answer s (length from)) o write.NotYet,
+          option_map_or (λ (s : EndState). write_answer s (length from)) o (beyond_answer l.closing (length from)),
           took_bytes
-              (option_map_or (λ (s : EndState). write_answer s (length from)) o write.NotYet) from,
+              (option_map_or (λ (s : EndState). write_answer s (length from)) o (beyond_answer l.closing (length from))) from,
         )
         by_end None found =
-            let none = takes_none e (length from) (beyond e found) in
-            let test : nat_le 1 (at_most (model.may_take turns t e) (length from)) ≡ false = ap (nat_le 1) none ∙ one_le 0 in
-            (λ i. writes (model.may_take turns t e) (writes_are e None found i) from) ∙ rw test refl
+            (λ i. writes (model.may_take turns t e) (writes_are e None found i) from)
+            ∙ writes_far (model.is_closing turns t) (model.may_take turns t e) from (takes_far e (length from) (beyond e found))
+            ∙ ap (λ c. (beyond_answer c (length from), took_bytes (beyond_answer c (length from)) from)) (sym h.is_closing)
         by_end (Some s) found =
             let k = h.ends e s found in
             let given : length (bytes_given e t) ≡ length s.taken = ap length (sym k.taken) in
-            let lets_so : model.may_take turns t e ≡ lets (list_any (allows_all e) (model.lines turns t))
+            let lets_so : model.may_take turns t e ≡ lets (model.is_closing turns t || list_any (allows_all e) (model.lines turns t))
             (sum_by (allows e) (model.lines turns t)) (length s.taken) =
-            lets_is e ∙ ap (lets (list_any (allows_all e) (model.lines turns t)) (sum_by (allows e) (model.lines turns t))) given in
+            ap (lets (model.is_closing turns t || list_any (allows_all e) (model.lines turns t))
+            (sum_by (allows e) (model.lines turns t))) given in
             (λ i. writes (model.may_take turns t e) (writes_are e (Some s) found i) from)
             ∙ writes_same (model.may_take turns t e) s from (ap (λ o. at_most o (length from)) lets_so ∙ takes_same s.may_take _ _
             (length s.taken) (length from) k.may_take (fits s found))
 
-    decision_is : (e : SideId) → model.decision turns t e ≡ model.first_or None (flat_map (decides e.link) (model.lines turns t))
-    decision_is e = λ i. model.first_or (if not_closing i then Some true else None) (flat_map (decides e.link) (model.lines turns t))
+    abbrev EndHere : SideId → EndState → Type 0
+    EndHere e s = EndStands (model.is_closing turns t) (links_of (lines_of turns)) (model.lines turns t) t e s
 
     -- an end of a link that was opened is undecided just where the port has it so
-    undecided_is : (e : SideId) (s : EndState) → EndStands (links_of (lines_of turns)) (model.lines turns t) t e s → e.link <
+    undecided_is : (e : SideId) (s : EndState) → EndHere e s → e.link <
         length (model.links turns t) → model.is_undecided turns t e ≡ s.wait
     undecided_is e s k near =
         sym (k.wait ∙ ap (λ z. model.undecided_at e.side (get_or z e.link false)) (sym links_whole) ∙ ap
@@ -252,15 +286,34 @@ module _ (turns : List ScriptTurn) (t : Trace) (asked : IsCalledFor turns t) whe
     not_undecided e far = ap (model.undecided_at e.side) (past (model.links turns t) e.link far) ∙ undecided_none e.side
 
     -- an undecided end is decided just as the port has it
-    decided_is : (e : SideId) (s : EndState) → EndStands (links_of (lines_of turns)) (model.lines turns t) t e s → s.wait ≡ true →
+    decided_is : (e : SideId) (s : EndState) → EndHere e s → s.wait ≡ true →
         model.decision turns t e ≡ s.decision
     decided_is e s k w =
         let ds = flat_map (decides e.link) (model.lines turns t) in
-        decision_is e ∙ sym (decided_out e.side (get_or (links_of (lines_of turns)) e.link false) ds (sym k.wait ∙ w)) ∙ sym k.decision
+        sym (decided_out (model.is_closing turns t) e.side (get_or (links_of (lines_of turns)) e.link false) ds (sym k.wait ∙ w)) ∙ sym k.decision
 
-    undecided_yet : (e : SideId) (s : EndState) → EndStands (links_of (lines_of turns)) (model.lines turns t) t e s → length
-        (model.links turns t) ≤ e.link → s.decision ≡ None
-    undecided_yet e s k far = k.decision ∙ ap (decided_at e.side) (unsaid e far).decides ∙ decided_none e.side
+    undecided_yet : (e : SideId) (s : EndState) → EndHere e s → length (model.links turns t) ≤ e.link → model.is_closing turns t ≡
+        false → s.decision ≡ None
+    undecided_yet e s k far before = k.decision ∙ (λ i. decided_at (before i) e.side ((unsaid e far).decides i)) ∙ decided_none e.side
+
+    -- in closing turns all links were opened
+    all_opened : length turns ≤ model.begun turns t → model.links turns t ≡ links_of (lines_of turns)
+    all_opened past_all = links_are ∙ ap (λ ts. links_of (lines_of ts)) (take_all (model.begun turns t) turns past_all)
+
+    -- an end is undecided just where the port has it so, or no line opened its link yet
+    same_or_far : (e : SideId) (s : EndState) → EndHere e s → (model.is_undecided turns t e ≡ s.wait) ⊎
+        ((length (model.links turns t) ≤ e.link) × (model.is_closing turns t ≡ false))
+    same_or_far e s k =
+        elim (leb_tells (suc (length turns)) (model.begun turns t)) [
+          | inl c ↦
+              let less = c.1 in
+              inl (sym (k.wait ∙ ap (λ z. model.undecided_at e.side (get_or z e.link false)) (sym (all_opened (omega (arith, less))))))
+          | inr c ↦
+              elim (cases_lt e.link (length (model.links turns t))) [
+                | inl near ↦ inl (undecided_is e s k near)
+                | inr far ↦ inr (far, c.0)
+              ]
+        ]
 
     not_made : (e : SideId) → length (model.links turns t) ≤ e.link → is_made_connected e t ≡ false
     not_made e far = let few = h.in_order in none_made e t [] t refl asked.in_order (omega (arith, far, few))
@@ -275,58 +328,60 @@ module _ (turns : List ScriptTurn) (t : Trace) (asked : IsCalledFor turns t) whe
         by_end None found = far_is (beyond e found)
         by_end (Some s) found =
             let k = h.ends e s found in
-            elim (cases_lt e.link (length (model.links turns t))) [
-              | inl near ↦
+            elim (same_or_far e s k) [
+              | inl same ↦
                   elim (cases_Bool s.wait) [
                     | inl w ↦
-                        (λ i. conn_of ((undecided_is e s k near ∙ w) i) (decided_is e s k w i) (is_made_connected e t)) ∙ ap
+                        (λ i. conn_of ((same ∙ w) i) (decided_is e s k w i) (is_made_connected e t)) ∙ ap
                         (λ b. conn_of b s.decision s.tally.made_connected) (sym w)
                     | inr w ↦
-                        (λ i. conn_of ((undecided_is e s k near ∙ w) i) (model.decision turns t e) (sym k.made_connected i)) ∙ ap
+                        (λ i. conn_of ((same ∙ w) i) (model.decision turns t e) (sym k.made_connected i)) ∙ ap
                         (λ b. conn_of b s.decision s.tally.made_connected) (sym w)
                   ]
               | inr far ↦
-                  far_is far ∙ sym (conn_none s.wait)
-                  ∙ (λ i. conn_of s.wait (sym (undecided_yet e s k far) i) (sym (k.made_connected ∙ not_made e far) i))
+                  far_is far.0 ∙ sym (conn_none s.wait)
+                  ∙ (λ i. conn_of s.wait (sym (undecided_yet e s k far.0 far.1) i) (sym (k.made_connected ∙ not_made e far.0) i))
             ]
 
     -- whether the script lets an end take a byte is whether the port does
-    any_is : (e : SideId) (s : EndState) → EndStands (links_of (lines_of turns)) (model.lines turns t) t e s → nat_le 1
+    any_is : (e : SideId) (s : EndState) → EndHere e s → nat_le 1
         (at_most (model.may_take turns t e) 1) ≡ not (taken_of s.may_take 1 == 0)
     any_is e s k =
-        ap (λ o. nat_le 1 (at_most o 1)) (lets_is e ∙ ap (λ (z : List ℕ). lets (list_any (allows_all e) (model.lines turns t))
-        (sum_by (allows e) (model.lines turns t)) (length z)) (sym k.taken))
-        ∙ takes_any s.may_take (list_any (allows_all e) (model.lines turns t)) (sum_by (allows e) (model.lines turns t))
+        ap (λ (z : List ℕ). nat_le 1 (at_most (lets (model.is_closing turns t || list_any (allows_all e) (model.lines turns t))
+        (sum_by (allows e) (model.lines turns t)) (length z)) 1)) (sym k.taken)
+        ∙ takes_any s.may_take (model.is_closing turns t || list_any (allows_all e) (model.lines turns t))
+        (sum_by (allows e) (model.lines turns t))
         (length s.taken) k.may_take
 
     pub can_write_is : (e : SideId) → model.can_write turns t e ≡ can_write_at l e
     can_write_is e = by_end (end_of l e) refl
       where
-        far_is : length (model.links turns t) ≤ e.link → model.can_write turns t e ≡ false
-        far_is far = λ i. write_of (not_undecided e far i) (is_connected e t) (model.decision turns t e)
-            (nat_le 1 (takes_none e 1 far i)) (not (not_closing i) && (unsaid e far).writes i)
+        far_is : length (model.links turns t) ≤ e.link → model.can_write turns t e ≡ model.is_closing turns t
+        far_is far = (λ i. write_of (not_undecided e far i) (is_connected e t) (model.decision turns t e)
+            (nat_le 1 (takes_far e 1 far i)) (no_writes e far i)) ∙ marks_far (model.is_closing turns t)
 
-        by_end : (o : Option EndState) → end_of l e ≡ o → model.can_write turns t e ≡ option_map_or can_write o false
-        by_end None found = far_is (beyond e found)
+        by_end : (o : Option EndState) → end_of l e ≡ o → model.can_write turns t e ≡ option_map_or can_write o l.closing
+        by_end None found = far_is (beyond e found) ∙ sym h.is_closing
         by_end (Some s) found =
             let k = h.ends e s found in
-            elim (cases_lt e.link (length (model.links turns t))) [
-              | inl near ↦
+            elim (same_or_far e s k) [
+              | inl same ↦
                   elim (cases_Bool s.wait) [
                     | inl w ↦
-                        (λ i. write_of ((undecided_is e s k near ∙ w) i) (sym k.connected i) (decided_is e s k w i)
+                        (λ i. write_of ((same ∙ w) i) (sym k.connected i) (decided_is e s k w i)
                         (any_is e s k i) (writes_are e (Some s) found i))
                         ∙ ap (λ b. write_of b s.tally.connected s.decision (not (taken_of s.may_take 1 == 0)) s.write_fails) (sym w)
                     | inr w ↦
-                        (λ i. write_of ((undecided_is e s k near ∙ w) i) (sym k.connected i) (model.decision turns t e)
+                        (λ i. write_of ((same ∙ w) i) (sym k.connected i) (model.decision turns t e)
                         (any_is e s k i) (writes_are e (Some s) found i))
                         ∙ ap (λ b. write_of b s.tally.connected s.decision (not (taken_of s.may_take 1 == 0)) s.write_fails) (sym w)
                   ]
               | inr far ↦
-                  let none : not (taken_of s.may_take 1 == 0) ≡ false = sym (any_is e s k) ∙ ap (nat_le 1) (takes_none e 1 far) in
-                  far_is far ∙ sym (write_none s.wait s.tally.connected)
-                  ∙ (λ i. write_of s.wait s.tally.connected (sym (undecided_yet e s k far) i) (sym none i)
-                  (sym (k.write_fails ∙ (unsaid e far).writes) i))
+                  let none : not (taken_of s.may_take 1 == 0) ≡ false = sym (any_is e s k) ∙ ap (nat_le 1) (takes_far e 1 far.0 ∙ ap
+                  (λ (c : Bool). if c then 1 else 0) far.1) in
+                  far_is far.0 ∙ far.1 ∙ sym (write_none s.wait s.tally.connected)
+                  ∙ (λ i. write_of s.wait s.tally.connected (sym (undecided_yet e s k far.0 far.1) i) (sym none i)
+                  (sym (k.write_fails ∙ no_writes e far.0) i))
             ]
 
     -- what is marked in the running turn alone

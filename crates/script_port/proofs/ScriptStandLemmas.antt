@@ -28,12 +28,12 @@ use Rattle.script_port.proofs.ScriptSaidLemmas.{is_named, Said, said, not_said}
 pub from_some : {A : Type 0} (x y : A) → ◌≡◌ {A = Option A} (Some x) (Some y) → x ≡ y
 from_some x y h = ap (λ o. unwrap_or o x) h
 
-map_some : (f : EndState → EndState) (o : Option EndState) (s : EndState) → option_map f o ≡ Some s → (old : EndState) ×
+pub map_some : (f : EndState → EndState) (o : Option EndState) (s : EndState) → option_map f o ≡ Some s → (old : EndState) ×
     (o ≡ Some old) × (s ≡ f old)
 map_some f None s h = absurd (cc)
 map_some f (Some old) s h = (old, refl, sym (from_some (f old) s h))
 
-map_none : (f : EndState → EndState) (o : Option EndState) → option_map f o ≡ None → o ≡ None
+pub map_none : (f : EndState → EndState) (o : Option EndState) → option_map f o ≡ None → o ≡ None
 map_none f None h = refl
 map_none f (Some old) h = absurd (cc)
 

@@ -13,16 +13,21 @@ use Rattle.script_port.specs.ScriptLinks.{accept_answer, after_wants}
 use Rattle.ev_port.specs.declared.port.Want.{Want}
 use Rattle.script_port.specs.ScriptState.{LinksState, PortState}
 use Rattle.script_port.specs.ScriptPort.{poll_answer}
-use Rattle.relay_model.specs.Called.{IsCalledFor}
+use Rattle.script_port.specs.ScriptPlan.{ScriptPlan, closings, IsCalledBy}
+use Rattle.script_port.specs.ScriptPlays.{NoneWaitsOn}
 use Rattle.script_port.specs.ScriptVouched.{ScriptVouches, NoneWaits}
 use Rattle.ev_port.specs.Vouching.{NothingWaits}
 use Rattle.script_port.proofs.ScriptTraceLemmas.{like-wants}
-use Rattle.script_port.proofs.ScriptVouchLemmas.{called_before, stands_if}
+use Rattle.script_port.proofs.ScriptVouchLemmas.{called_before, called_theirs, stands_if}
 
 pub nothing_waits : (p : PortState) → p.links.waiting ≡ [] → NothingWaits (ScriptVouches p) NoneWaits
-nothing_waits p none = λ turns t vouched asked.
-    let stands = stands_if p turns t vouched (subst (λ z. IsCalledFor z t) (sym vouched.0) asked) in
-    subst (λ (z : List ScriptTurn). waiting z t ≡ []) vouched.0 (sym stands.links.waiting ∙ none)
+nothing_waits p none = λ plan t vouched asked.
+    let stands = stands_if p plan t vouched (called_theirs p plan t vouched.turns vouched.closing asked) in
+    subst (λ (z : List ScriptTurn). waiting z t ≡ []) vouched.turns (sym stands.links.waiting ∙ none)
+
+-- Where none waits by a plan, none does by another of the same script.
+pub none_waits_on : NoneWaitsOn
+none_waits_on plan later t same asked none = λ _. subst (λ (z : List ScriptTurn). waiting z t ≡ []) (sym same) (none asked)
 
 -- an accept finds no link where none waits alone
 pub none_to_accept : (ws : List Bool) → accept_answer ws ≡ answer.NotYet → ws ≡ []
@@ -52,20 +57,20 @@ pub waiting-wants : (ws : List Want) (l : LinksState) → (after_wants ws l).wai
 waiting-wants ws l = (like-wants ws l).waiting
 
 -- Behind a trace that is called for, all that a script port is said to have taken was taken by its script.
-pub took_called : (turns : List ScriptTurn) (links : ℕ) (t : Trace) → IsCalledFor turns t → AllTaken (NoneWaits turns) links t →
-    TookAll turns links t
-took_called turns links t called (inl none) = inl (none called)
-took_called turns links t called (inr many) = inr many
+pub took_called : (plan : ScriptPlan) (links : ℕ) (t : Trace) → IsCalledBy plan t → AllTaken (NoneWaits plan) links t →
+    TookAll plan.turns links t
+took_called plan links t called (inl none) = inl (none called)
+took_called plan links t called (inr many) = inr many
 
 only_if : (b : Bool) (P Q : Type 0) → (P → Q) → MatchBool b P ⊤ → MatchBool b Q ⊤
 only_if true P Q f h = f h
 only_if false P Q f h = h
 
-pub always_called : (turns : List ScriptTurn) (links : ℕ) (before t : Trace) → IsCalledFor turns (before ++ t) → AlwaysAllTaken
-    (NoneWaits turns) links before t → AlwaysTookAll turns links before t
-always_called turns links before [] called h = tt
-always_called turns links before (x ∷ t) called h = (
-  only_if (is_behind_accepting x) (AllTaken (NoneWaits turns) links before) (TookAll turns links before)
-      (took_called turns links before (called_before turns before (x ∷ t) called)) h.0,
-  always_called turns links (before ++ x ∷ []) t (subst (IsCalledFor turns) (sym (append_assoc before (x ∷ []) t)) called) h.1,
+pub always_called : (plan : ScriptPlan) (links : ℕ) (before t : Trace) → IsCalledBy plan (before ++ t) → AlwaysAllTaken
+    (NoneWaits plan) links before t → AlwaysTookAll plan.turns links before t
+always_called plan links before [] called h = tt
+always_called plan links before (x ∷ t) called h = (
+  only_if (is_behind_accepting x) (AllTaken (NoneWaits plan) links before) (TookAll plan.turns links before)
+      (took_called plan links before (called_before (plan.turns ++ closings plan.closing) before (x ∷ t) called)) h.0,
+  always_called plan links (before ++ x ∷ []) t (subst (IsCalledBy plan) (sym (append_assoc before (x ∷ []) t)) called) h.1,
 )

@@ -1,5 +1,5 @@
 // The words of the two programs' command lines, as a user may give them.
-use command_words::{ScriptKind, WordsFault, mode_words, serve_words};
+use command_words::{Ending, ScriptKind, WordsFault, mode_words, serve_words};
 use ev_types::{Addr, FilterKind, Route};
 use script_text::Settings;
 use std::alloc::Global;
@@ -263,10 +263,21 @@ fn other_words_are_refused(rt: HostRuntime) -> Result<(), Fail> {
 
 /// Words, each with the mode that they ask for.
 const MODES: &[(&[&str], Option<ScriptKind>)] = &[
-    (&["relay"], Some(ScriptKind::Relay)),
+    (&["relay"], Some(ScriptKind::Relay(Ending::LastTurn))),
     (&["buffers"], Some(ScriptKind::Buffers)),
     (&["base"], Some(ScriptKind::Base)),
     (&["pairs"], Some(ScriptKind::Pairs)),
+    (
+        &["relay", "--drain"],
+        Some(ScriptKind::Relay(Ending::Drained)),
+    ),
+    (
+        &["--drain", "relay"],
+        Some(ScriptKind::Relay(Ending::Drained)),
+    ),
+    (&["big", "1"], Some(ScriptKind::Big(1))),
+    (&["big", "10"], Some(ScriptKind::Big(10))),
+    (&["big", "64"], Some(ScriptKind::Big(64))),
     (&[], None),
     (&[""], None),
     (&["-"], None),
@@ -278,23 +289,109 @@ const MODES: &[(&[&str], Option<ScriptKind>)] = &[
     (&["Relay"], None),
     (&["rela"], None),
     (&["--help"], None),
+    (&["-h"], None),
+    (&["--version"], None),
     (&["-V"], None),
+    (&["help"], None),
     (&["relay", "--help"], None),
 ];
 
+/// Words with the flag that ask for no mode.
+const NO_FLAGS: &[&[&str]] = &[
+    &["--drain"],
+    &["--drain", "--drain"],
+    &["relay", "--drain", "--drain"],
+    &["--drain", "relay", "--drain"],
+    &["--drain", "--drain", "relay"],
+    &["relay", "--drain=x"],
+    &["relay", "--drain="],
+    &["--drain=relay"],
+    &["--drain=true", "relay"],
+    &["relay", "--dra"],
+    &["relay", "--drains"],
+    &["relay", "-drain"],
+    &["relay", "-d"],
+    &["relay", "drain"],
+    &["relay", "--Drain"],
+    &["relay", "--drain", ""],
+    &["relay", "--drain", "--"],
+    &["relay", "--drain", "5"],
+    &["relay", "5", "--drain"],
+    &["relay", "relay", "--drain"],
+    &["buffers", "--drain"],
+    &["--drain", "base"],
+    &["pairs", "--drain"],
+    &["--drain", "--help", "relay"],
+];
+
+/// Words with a number, or with `big`, that ask for no mode.
+const NO_NUMBERS: &[&[&str]] = &[
+    &["big"],
+    &["big", ""],
+    &["big", "0"],
+    &["big", "65"],
+    &["big", "01"],
+    &["big", "+1"],
+    &["big", "-1"],
+    &["big", "1 "],
+    &["big", "x"],
+    &["big", "640"],
+    &["big", "18446744073709551617"],
+    &["big", "5", "5"],
+    &["big", "5", "--drain"],
+    &["big", "--drain", "5"],
+    &["--drain", "big", "5"],
+    &["big", "--drain"],
+    &["--drain", "big"],
+    &["big=5"],
+    &["big", "--count", "5"],
+    &["big", "--count=5"],
+    &["--mode=relay"],
+    &["--mode", "relay"],
+    &["5", "big"],
+    &["5"],
+    &["relay", "5"],
+    &["buffers", "5"],
+    &["Big", "5"],
+];
+
+/// What words ask for.
+fn mode(alloc: Global, words: &[&str]) -> Result<Result<ScriptKind, WordsFault>, Fail> {
+    let mut all = Vec::new(alloc);
+    put_words(&mut all, alloc, words)?;
+    Ok(mode_words(alloc, &all))
+}
+
 fn first_other_mode(alloc: Global) -> Result<Option<usize>, Fail> {
-    for (place, (words, mode)) in MODES.iter().enumerate() {
-        let mut all = Vec::new(alloc);
-        put_words(&mut all, alloc, words)?;
-        if mode_words(alloc, &all) != mode.ok_or(WordsFault::Usage) {
+    for (place, (words, owed)) in MODES.iter().enumerate() {
+        if mode(alloc, words)? != owed.ok_or(WordsFault::Usage) {
             return Ok(Some(place));
         }
     }
     Ok(None)
 }
 
+/// The place of the first words that ask for a mode.
+fn first_mode(alloc: Global, lists: &[&[&str]]) -> Result<Option<usize>, Fail> {
+    for (place, words) in lists.iter().enumerate() {
+        if mode(alloc, words)? != Err(WordsFault::Usage) {
+            return Ok(Some(place));
+        }
+    }
+    Ok(None)
+}
+
+/// The first words of each kind that ask for another mode than they owe.
+fn first_modes(alloc: Global) -> Result<[Option<usize>; 3], Fail> {
+    Ok([
+        first_other_mode(alloc)?,
+        first_mode(alloc, NO_FLAGS)?,
+        first_mode(alloc, NO_NUMBERS)?,
+    ])
+}
+
 #[test]
-fn one_mode_word_is_taken(rt: HostRuntime) -> Result<(), Fail> {
-    assert_eq!(rt; first_other_mode(rt.alloc())?, None);
+fn words_ask_for_their_mode(rt: HostRuntime) -> Result<(), Fail> {
+    assert_eq!(rt; first_modes(rt.alloc())?, [None; 3]);
     Ok(())
 }

@@ -1,12 +1,13 @@
 use Rattle.script_port.proofs.ScriptSpelledLemmas.{spelled_names_opened}
 use Rattle.evplay.proofs.BroughtLemmas.{brings-fit}
 use Rattle.evplay.proofs.PlanLemmas.{plans-low}
-use Rattle.evplay.proofs.ScriptLemmas.{few-turns, links-usual}
+use Rattle.evplay.proofs.ScriptLemmas.{links-usual}
+use Rattle.evplay.proofs.SizeLemmas.{are-small}
 use Rattle.evplay.proofs.TimeoutLemmas.{timeouts-fit}
 use Rattle.evplay.proofs.outcome.relay.Goals as goal
 
-pub run-requires-clause-few : goal.run-requires-clause-few
-run-requires-clause-few g c = few-turns c.args.text.now c.in-Ok.script c.in-Ok.ensures.script
+pub run-requires-clause-small : goal.run-requires-clause-small
+run-requires-clause-small g c = are-small c.args.text.now c.in-Ok.script c.in-Ok.ensures.script c.requires.short c.in-Ok.ensures.bytes
 
 pub run-requires-clause-names : goal.run-requires-clause-names
 run-requires-clause-names g c = spelled_names_opened c.args.text.now c.in-Ok.script c.in-Ok.ensures.script

@@ -14,7 +14,7 @@ use Rattle.program_end.proofs.TurnCountLemmas.{end-begins, count-append}
 use Rattle.evplay.specs.declared.run.RunEnd.{RunEnd}
 use Rattle.evplay.specs.declared.run.RunEnd.TheVariants as run_end
 use Rattle.evplay.specs.Run.{refused_by, TellsTurn}
-use Rattle.evplay.specs.Runs.{CameTo, StandsAfter, ToldTo}
+use Rattle.evplay.specs.CameTo.{CameTo, StandsAfter, ToldTo}
 use Rattle.evplay.proofs.FaultLemmas.{memory-or-poll, polled, only-memory, cut-told}
 use Rattle.evplay.proofs.TurnLemmas.{fresh, first-stands, stands-more, stopped-more, failed-more, ended-within}
 use Rattle.evplay.proofs.TurnLemmas.{trace_in, some-and, grew-is, told-longer}

@@ -4,7 +4,7 @@ use Rattle.ev_types.specs.declared.side.SideId.{SideId}
 use Rattle.relay_drive.specs.Seats.{telling, AreSeated}
 use Rattle.program_end.specs.Planned.{HavePlans, AllToldOf}
 use Rattle.script_port.specs.ScriptPlan.{first_plan}
-use Rattle.evplay.specs.Runs.{StandsAfter}
+use Rattle.evplay.specs.CameTo.{StandsAfter}
 use Rattle.evplay.proofs.TurnLemmas.{trace_in}
 use Rattle.evplay.proofs.turns.make_script_turns.Given as goal
 

@@ -1,17 +1,15 @@
-use Rattle.std.proofs.Common.{subst, sym}
-use Rattle.script_port.specs.ScriptPlayed.{script_played}
-use Rattle.relay_model.specs.Called.{IsCalledFor}
+use Rattle.std.proofs.Common.{subst}
 use Rattle.relay_model.specs.Script.{closing_step}
 use Rattle.relay_model.specs.Plays.{IsAnswered}
-use Rattle.script_port.proofs.ScriptVouchLemmas.{stands_if}
+use Rattle.script_port.specs.ScriptPlan.{plan_of_run}
+use Rattle.script_port.proofs.ScriptVouchLemmas.{called_theirs, stands_if}
 use Rattle.script_port.proofs.laws.vouched_is_played.Goals as goal
 
 pub returns : goal.returns
-returns c = λ script p t closing answer vouches asked took ends.
-    let same = vouches.0 in
-    let stands = stands_if p script.turns t vouches (subst (λ turns. IsCalledFor turns t) (sym same) asked) in record {
-      answered = subst (λ turns. IsAnswered turns (closing_step (script_played script).settings) t) same
-          (stands.answered (closing_step (script_played script).settings));
+returns c = λ script p t closing announced answer vouches asked took ends.
+    let plan = plan_of_run script announced in
+    let stands = stands_if p plan t vouches (called_theirs p plan t vouches.turns vouches.closing asked) in record {
+      answered = subst (λ turns. IsAnswered turns (closing_step script.settings) t) vouches.turns stands.answered;
       took_all = took;
       turns = ends;
     }

@@ -6,4 +6,4 @@ pub invariant_of-self-2 : goal.invariant_of-self-2
 invariant_of-self-2 c =
     let l = c.self.inside.links in
     rw c.poll.ensures.after (still_brings _ l (after_wants c.poll.new.wants l.state) (length-after_wants c.poll.new.wants l.state)
-    c.self.invariant)
+    c.self.invariant.0, c.self.invariant.1)

@@ -7,4 +7,4 @@ pub invariant_of-self : goal.invariant_of-self
 invariant_of-self c =
     let l = c.self.inside.links in
     rw c.fail_check.ensures (still_brings _ l (at_end c.args.end (failed_check) l.state) (length-at_end c.args.end (failed_check)
-    l.state) c.self.invariant)
+    l.state) c.self.invariant.0, c.self.invariant.1)

@@ -6,4 +6,4 @@ pub invariant_of-self : goal.invariant_of-self
 invariant_of-self c =
     let l = c.self.inside.links in
     rw c.count_wants.ensures (still_brings _ l (after_wants c.unmark.new.wants l.state) (length-after_wants c.unmark.new.wants
-    l.state) c.self.invariant)
+    l.state) c.self.invariant.0, c.self.invariant.1)

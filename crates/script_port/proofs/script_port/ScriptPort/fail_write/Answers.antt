@@ -7,4 +7,4 @@ pub invariant_of-self : goal.invariant_of-self
 invariant_of-self c =
     let l = c.self.inside.links in
     rw c.fail_write.ensures (still_brings _ l (at_end c.args.end (failed_write c.args.offer) l.state)
-    (length-at_end c.args.end (failed_write c.args.offer) l.state) c.self.invariant)
+    (length-at_end c.args.end (failed_write c.args.offer) l.state) c.self.invariant.0, c.self.invariant.1)

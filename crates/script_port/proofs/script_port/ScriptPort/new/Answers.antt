@@ -7,7 +7,7 @@ use Rattle.ev_types.specs.ScriptTurn.{lines_of}
 use Rattle.script_port.proofs.TurnLemmas.{shown_turn}
 use Rattle.script_port.proofs.ListLemmas.{part_at}
 use Rattle.script_port.proofs.ScriptLemmas.{links_step, links_done, all_to_come}
-use Rattle.script_port.proofs.ScriptVouchLemmas.{new_from}
+use Rattle.script_port.proofs.ScriptTurnLemmas.{new_from}
 use Rattle.script_port.proofs.script_port.ScriptPort.new.Goals as goal
 
 pub loop-lines-preserved : goal.loop-lines-preserved
@@ -57,4 +57,4 @@ returns-clause-vouched c =
     c.new-links.ensures in
     let kept = rw (← c.script.view_is) at c.in_ok-turns.ensures in
     let links = ap (λ (l : LinksKept). l.state) kept.links ∙ ap (λ (l : LinksKept). l.state) all_links in
-    rw (← c.script.view_is) (new_from turns _ (rw (kept.turns, links, c.new.ensures)))
+    λ step. rw (← c.script.view_is) (new_from turns _ (rw (kept.turns, links, c.new.ensures)) step)

@@ -14,7 +14,7 @@ invariant_of-self c =
     let l = c.self.inside.links in
     let link = c.args.link in
     rw c.accept-answer.ensures.after
-    (still_brings _ l (accept_first link l.state.waiting l.state) (length-accept_first link l.state.waiting l.state) c.self.invariant)
+    (still_brings _ l (accept_first link l.state.waiting l.state) (length-accept_first link l.state.waiting l.state) c.self.invariant.0, c.self.invariant.1)
 
 pub returns-clause-ends : goal.returns-clause-ends
 returns-clause-ends c =

@@ -12,7 +12,7 @@ pub invariant_of-self : goal.invariant_of-self
 invariant_of-self c =
     rw c.close_write.ensures
     (still_brings _ c.self.inside.links (at_end c.args.end after_close_write c.self.inside.links.state)
-    (length-at_end c.args.end after_close_write c.self.inside.links.state) c.self.invariant)
+    (length-at_end c.args.end after_close_write c.self.inside.links.state) c.self.invariant.0, c.self.invariant.1)
 
 pub returns-clause-ends : goal.returns-clause-ends
 returns-clause-ends c =

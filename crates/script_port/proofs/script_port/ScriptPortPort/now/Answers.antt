@@ -5,7 +5,7 @@ use Rattle.script_port.specs.ScriptTold.{ends_told}
 use Rattle.ev_port.proofs.StepLemmas.{EndWent-none}
 use Rattle.script_port.proofs.CallLemmas.{turn_untold}
 use Rattle.script_port.specs.ScriptPortView.{port_state}
-use Rattle.script_port.proofs.ScriptVouchLemmas.{reading_vouched}
+use Rattle.script_port.proofs.ScriptTurnLemmas.{reading_vouched}
 use Rattle.script_port.proofs.FaultLemmas.{faults_stay, faults-turn, polls-turn}
 use Rattle.script_port.proofs.script_port.ScriptPortPort.now.Goals as goal
 

@@ -14,7 +14,7 @@ invariant_of-self c =
     let room = length c.args.into.now in
     rw c.read.ensures.after
     (still_brings _ l (at_end c.args.end (λ s. after_read s room) l.state) (length-at_end c.args.end (λ s. after_read s room)
-    l.state) c.self.invariant)
+    l.state) c.self.invariant.0, c.self.invariant.1)
 
 pub returns-clause-ends : goal.returns-clause-ends
 returns-clause-ends c =

@@ -9,7 +9,7 @@ pub invariant_of-self : goal.invariant_of-self
 invariant_of-self c =
     let l = c.self.inside.links in
     let long = length-wrote l.state c.write.new.self.state c.args.end c.args.from.now c.write.result c.write.ensures.wrote in
-    rw c.write.ensures.kept (still_brings _ l c.write.new.self.state long c.self.invariant)
+    rw c.write.ensures.kept (still_brings _ l c.write.new.self.state long c.self.invariant.0, c.self.invariant.1)
 
 pub returns-clause-ends : goal.returns-clause-ends
 returns-clause-ends c =
