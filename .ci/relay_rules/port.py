@@ -1,6 +1,6 @@
-"""What a script answers to the calls of the relay, and a port whose k-th call of a kind fails."""
+"""What a script answers to the calls of the relay, and a port whose k-th call of a kind fails. In closing turns every end takes every
+write and is connected unless the script decided otherwise."""
 from collections import defaultdict
-
 
 
 class ScriptPort:
@@ -9,6 +9,7 @@ class ScriptPort:
         self.pending, self.room = defaultdict(bytearray), defaultdict(int)
         self.over, self.wfail, self.decided = {}, set(), {}
         self.undecided, self.spur, self.pollfail, self.accepted = set(), set(), False, 0
+        self.step = 0  # by how much the clock goes on with each closing turn, once they begin
 
     def now(self):
         self.spur, self.pollfail = set(), False
@@ -16,7 +17,13 @@ class ScriptPort:
             self.last, lines = self.turns.pop(0)
             for line in lines:
                 self.apply(*line)
+        else:
+            self.last += self.step
         return self.last
+
+    def waiting(self):
+        """How many links wait to be accepted."""
+        return len(self.links) - self.accepted
 
     def apply(self, name, end=None, value=None):
         if name == "open":
@@ -43,6 +50,8 @@ class ScriptPort:
             return True
         if way == "read":
             return bool(self.pending[end]) or end in self.over
+        if self.step:
+            return True
         if end in self.undecided:
             return end in self.decided
         return self.room[end] > 0 or end in self.wfail
@@ -52,19 +61,19 @@ class ScriptPort:
         if self.pollfail:
             return None
         marks = ((end, [way for way in ways if self.can(end, way)]) for end, ways in wants)
-        return [(end, ways) for end, ways in marks if ways], self.accepted < len(self.links)
+        return [(end, ways) for end, ways in marks if ways], self.waiting() > 0
 
     def accept(self):
         """Whether the next link is connected; "notyet" where none waits."""
-        if self.accepted == len(self.links):
+        if not self.waiting():
             return "notyet"
         self.accepted += 1
         return self.links[self.accepted - 1]
 
     def connect_state(self, end):
-        if end not in self.decided:
+        if end not in self.decided and not self.step:
             return "wait"
-        if not self.decided[end]:
+        if not self.decided.get(end, True):
             return "fail"
         self.undecided.discard(end)
         return "ok"
@@ -75,6 +84,8 @@ class ScriptPort:
         return got or self.over.get(end, "notyet")
 
     def write(self, end, data):
+        if self.step:
+            return data
         took = data[: int(min(len(data), self.room[end]))]
         self.room[end] -= len(took)
         return took or ("fail" if end in self.wfail else "notyet")

@@ -80,6 +80,7 @@ class Relay:
             self.hooks.setdefault(end, Hook()).plans.append((kind, nth, act))
         self.time, self.links, self.order = 0, 0, 0
         self.due, self.batch = {}, {}
+        self.closing, self.most = 0, None  # closing turns made, and how many may be
 
     def put(self, *words):
         self.trace.append(" ".join(str(word) for word in words))
@@ -89,6 +90,9 @@ class Relay:
 
     def live(self):
         return [(end, it) for end, it in self.ends.items() if it.live]
+
+    def open_links(self):
+        return {link for (link, _), it in self.ends.items() if it.live}
 
     def wants(self, end):
         return [way for way in DIRS if self.ends[end].wants(way, self.peer(end))]
