@@ -2,8 +2,9 @@
 use Rattle.std.proofs.Common.{◌≡◌, ◌⊎◌, inl, inr, ◌≤◌, ◌<◌, ◌+◌, ◌-◌, ◌*◌, ◌^◌, ◌++◌, ◌∷◌, ◌&&◌, ℕ, zero, suc, Bool, true, false, min, List}
 use Rattle.std.proofs.Common.{[]}
 use Rattle.std.proofs.Common.{Option, Some, None, length, refl, sym, ap, subst, arith, ◌∙◌, append-nil, append_assoc, IfSome, All}
-use Rattle.std.specs.Prelude.{count_by, map, nat_lt, nat_le, sum_by, slice_index_or, MatchBool}
+use Rattle.std.specs.Prelude.{count_by, map, nat_lt, nat_le, sum_by, slice_index_or, ⊤, MatchBool}
 use Rattle.std.specs.List.{flat_map}
+use Rattle.std.proofs.lemmas.Bool.{le-ltb, lt-ltb}
 use Rattle.std.proofs.lemmas.List.Elements.{All-head, All-tail}
 use Rattle.ev_types.specs.ScriptTurn.{ScriptTurn, lines_of}
 use Rattle.ev_types.specs.Trace.{Trace}
@@ -28,7 +29,7 @@ use Rattle.relay_laws.proofs.TurnEndLemmas.{ends-none, ends-grow}
 use Rattle.relay_drive.specs.DriveValue.{DriveValue}
 use Rattle.program_end.proofs.TurnCountLemmas.{begun-is}
 use Rattle.script_port.specs.ScriptClosing.{MayClose}
-use Rattle.script_port.specs.ScriptPlan.{ScriptPlan, IsCalledBy}
+use Rattle.script_port.specs.ScriptPlan.{first_plan, ScriptPlan, IsCalledBy}
 use Rattle.script_port.specs.ScriptLinks.{links_of}
 use Rattle.script_port.specs.ScriptState.{EndState, PortState}
 use Rattle.script_port.specs.ScriptVouched.{last_reading, NoneWaits, PortStands, ScriptVouches, VouchesOn}
@@ -115,7 +116,7 @@ module _ (g : Settings) (turns : List ScriptTurn) (step k : ℕ) (d : DriveValue
   stands : PortStands p step t
   stands = stands-there p plan t vouches called-so
 
-  reached : Reaches g t (at Stage.Between d.state.plain)
+  pub reached : Reaches g t (at Stage.Between d.state.plain)
   reached = subst (λ z. Reaches z t (at Stage.Between d.state.plain)) inv.settings inv.means.reached
 
   answered : IsAnswered turns step t
@@ -142,9 +143,9 @@ module _ (g : Settings) (turns : List ScriptTurn) (step k : ℕ) (d : DriveValue
       counts.0 ∙ ap (λ z. all_buffered z t s.plain) inv.settings in
       let waits : length p.links.waiting ≡ length (waiting turns t) =
       ap length stands.links.waiting ∙ ap (λ z. length (waiting z t)) vouches.turns in
-      let open = counts.1 in
+      let living = counts.1 in
       let unread = unread-so in
-      omega (arith, buffered, unread, waits, open)
+      omega (arith, buffered, unread, waits, living)
 
   pub most-within : most_closing_turns turns g t d.state.plain ≤ 2 ^ 29
   most-within =
@@ -198,13 +199,38 @@ module _ (g : Settings) (turns : List ScriptTurn) (step k : ℕ) (d : DriveValue
   pub more-is : (most : ℕ) → makes_one_more turns most t d.state.plain
       ≡ (nat_lt 0 (open_below d.state d.state.plain.opened) && nat_lt k most)
   more-is most =
-      let open = (counts_are_as_told t Stage.Between d.state inv.means).1 in
+      let living = (counts_are_as_told t Stage.Between d.state inv.means).1 in
       let made : begun turns t - length turns ≡ k = omega (arith, begun-so) in
-      λ i. nat_le 1 (sym open i) && nat_lt (made i) most
+      λ i. nat_le 1 (sym living i) && nat_lt (made i) most
 
   -- The trace leads to the state of the relay.
   pub between-so : (Holds : Plain → Type 0) → Holds d.state.plain → BetweenTurns g t Holds
   between-so Holds h = (d.state.plain, reached, h)
+
+-- a closing turn is called for where a link is open and fewer than the most were made
+pub called-for : (g : Settings) (turns : List ScriptTurn) (step k : ℕ) (d : DriveValue) (p : PortState) (t : Trace) (small : AreSmall turns)
+    (names : NamesOpened 0 (lines_of turns)) → StandsAfter g (length turns + k) (closing_plan turns step k) d p t → (most all : ℕ) →
+    most ≡ all → k < most → (some : Bool) → some ≡ nat_lt 0 (open_below d.state d.state.plain.opened) → some ≡ true →
+    BetweenTurns g t (λ s. makes_one_more turns all t s ≡ true)
+called-for g turns step k d p t small names inv most all is fewer some is_some holds =
+    between-so g turns step k d p t small names inv (λ s. makes_one_more turns all t s ≡ true)
+    (more-is g turns step k d p t small names inv all
+    ∙ (λ i. (sym is_some ∙ holds) i && (lt-ltb k all (omega (arith, fewer, is))) i))
+
+-- none is where no link is open, or as many as the most were made
+pub not-called-for : (g : Settings) (turns : List ScriptTurn) (step k : ℕ) (d : DriveValue) (p : PortState) (t : Trace)
+    (small : AreSmall turns) (names : NamesOpened 0 (lines_of turns)) →
+    StandsAfter g (length turns + k) (closing_plan turns step k) d p t → (all : ℕ) →
+    (nat_lt 0 (open_below d.state d.state.plain.opened) ≡ false) ⊎ (all ≤ k) →
+    BetweenTurns g t (λ s. makes_one_more turns all t s ≡ false)
+not-called-for g turns step k d p t small names inv all none =
+    between-so g turns step k d p t small names inv (λ s. makes_one_more turns all t s ≡ false)
+    (more-is g turns step k d p t small names inv all ∙ by_case (nat_lt 0 (open_below d.state d.state.plain.opened)) none)
+  where
+    by_case : (b : Bool) → (b ≡ false) ⊎ (all ≤ k) → (b && nat_lt k all) ≡ false
+    by_case false h = refl
+    by_case true (inl h) = absurd (cc h)
+    by_case true (inr le) = le-ltb k all le
 
 -- Behind the turns of a script that led to a state stand closing turns, each of which was called for.
 pub record IsClosing (g : Settings) (turns : List ScriptTurn) (scripted : Trace) (plain : Plain) (t : Trace) : Type 0 where
@@ -259,3 +285,20 @@ drains-of g turns scripted plain answer t all reached so ends = (run, so.starts)
       each = λ before after ms bytes cut. so.each before ((entry.Turn ms, bytes) ∷ after) cut refl;
       ends = ends;
     }
+
+-- as closing turns begin, none was announced
+pub began-stands : (g : Settings) (n : ℕ) (turns : List ScriptTurn) (step : ℕ) (d : DriveValue) (p : PortState) (t : Trace) →
+    StandsAfter g n (first_plan turns step) d p t → n ≡ length turns →
+    StandsAfter g (length turns + 0) (closing_plan turns step 0) d p t
+began-stands g n turns step d p t inv many =
+    subst (λ m. StandsAfter g m (first_plan turns step) d p t) (let none : n ≡ length turns + 0 = omega (arith, many) in none) inv
+
+-- a run that stood behind all turns of its script drains its links
+pub drains-from : (g : Settings) (turns : List ScriptTurn) (step : ℕ) (d : DriveValue) (p : PortState) (scripted : Trace)
+    (small : AreSmall turns) (names : NamesOpened 0 (lines_of turns)) →
+    StandsAfter g (length turns + 0) (closing_plan turns step 0) d p scripted → (answer : TurnAnswer) (t : Trace) →
+    IsClosing g turns scripted d.state.plain t →
+    DrainEnds turns g (most_closing_turns turns g scripted d.state.plain) answer t → DrainsByTurns turns g answer t
+drains-from g turns step d p scripted small names inv answer t so ends =
+    let n = begun-so g turns step 0 d p scripted small names inv in
+    drains-of g turns scripted d.state.plain answer t (omega (arith, n)) (reached g turns step 0 d p scripted small names inv) so ends

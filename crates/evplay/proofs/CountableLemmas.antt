@@ -94,7 +94,7 @@ bound-within turns small =
     let same = brought-same (lines_of turns) in
     omega (arith, bytes, links, same)
 
-product-within : (a b m n : ℕ) → a ≤ m → b ≤ n → a * b ≤ m * n
+pub product-within : (a b m n : ℕ) → a ≤ m → b ≤ n → a * b ≤ m * n
 product-within a b m n h k = grind (arith, h, k)
 
 pub countable : (g : Settings) (turns : List ScriptTurn) → AreSmall turns → NamesOpened 0 (lines_of turns) → IsCountable g turns

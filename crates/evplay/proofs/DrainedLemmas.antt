@@ -30,7 +30,7 @@ drained-so turns g t links closing small names relayed answered took played can 
   few = drains_in_most turns g TurnAnswer.Went t drains.0;
   done = drained_links_are_done frees_are_of_done most_is_bounded (closing_turns_are_few frees_are_of_done) g turns t links can (countable g turns small names) relayed answered took played.1 drains.0 drains.1;
 }
-drained-so turns g t links closing small names relayed answered took played can (inr early) = absurd (early.answer refl)
+drained-so turns g t links closing small names relayed answered took played can (inr early) = absurd (early.ended refl)
 
 pub drained-where : (how : Ending) (turns : List ScriptTurn) (g : Settings) (answer : TurnAnswer) (t : Trace) (links : List LinkCount)
     (closing : ℕ) → AreSmall turns → NamesOpened 0 (lines_of turns) → IsRelayed g answer t links → IsAnswered turns (closing_step g) t →

@@ -1,10 +1,12 @@
 -- What a drive and a script port keep over the turns of a script, and over closing turns behind them, is a run of that script.
-use Rattle.std.proofs.Common.{◌≡◌, ◌≢◌, ◌⊎◌, ◌≤◌, ◌+◌, ◌*◌, ◌^◌, ℕ, true, List, [], length, sym, ap, ◌∙◌, refl, subst, arith, count_by}
-use Rattle.std.specs.List.{All}
+use Rattle.std.proofs.Common.{◌≡◌, ◌≢◌, ◌⊎◌, inl, inr, ◌≤◌, ◌+◌, ℕ, true, List, Option, [], length, sym, ap, ◌∙◌, refl, subst, arith, count_by}
 use Rattle.ev_types.specs.AskNumbers.{AsksFit}
 use Rattle.ev_types.specs.ScriptTurn.{ScriptTurn, lines_of}
 use Rattle.ev_types.specs.Trace.{Trace}
+use Rattle.ev_types.specs.declared.plan_line.PlanLine.{PlanLine}
+use Rattle.ev_types.specs.declared.side.SideId.{SideId}
 use Rattle.command_words.specs.declared.mode.Ending.{Ending}
+use Rattle.command_words.specs.declared.mode.Ending.TheVariants as ending
 use Rattle.script_text.specs.Script.{ScriptValue}
 use Rattle.relay_model.specs.Answers.{TurnAnswer}
 use Rattle.relay_model.specs.Called.{NamesOpened}
@@ -12,6 +14,7 @@ use Rattle.relay_model.specs.Hooked.{AskPlanned}
 use Rattle.relay_model.specs.Plays.{AlwaysTookAll, EndsPlayed, IsAnswered, Plays, TookAll}
 use Rattle.relay_model.specs.RatesKept.{is_turn}
 use Rattle.relay_model.specs.Script.{closing_step, plan_of}
+use Rattle.relay_model.specs.Scripted.{begun}
 use Rattle.relay_model.specs.Settings.{Settings}
 use Rattle.relay_model.specs.Stages.{Stage, at}
 use Rattle.relay_state.specs.State.{State}
@@ -21,21 +24,22 @@ use Rattle.relay_laws.specs.Report.{lines_below}
 use Rattle.relay_laws.specs.Spelling.{TimeoutsFit}
 use Rattle.relay_laws.specs.TurnEnds.{AtTurnEnds}
 use Rattle.relay_drive.specs.DriveValue.{DriveValue}
-use Rattle.relay_drive.specs.Known.{Point}
-use Rattle.script_port.specs.ScriptPlan.{ScriptPlan, IsCalledBy}
+use Rattle.relay_drive.specs.Seats.{Telling}
+use Rattle.program_end.proofs.PlannedLemmas.{all_told-planned}
+use Rattle.program_end.proofs.TurnCountLemmas.{begun-is}
+use Rattle.script_port.specs.ScriptPlan.{first_plan, ScriptPlan, IsCalledBy}
 use Rattle.script_port.specs.ScriptState.{PortState}
-use Rattle.script_port.specs.ScriptVouched.{NoneWaits, ScriptVouches}
+use Rattle.script_port.specs.ScriptVouched.{ScriptVouches}
 use Rattle.script_port.proofs.ScriptWaitingLemmas.{always_called, took_called}
 use Rattle.evplay.specs.HandedIn.{HandedIn}
 use Rattle.evplay.specs.Headline.{EndsAs, IsRun, settings_on, script_run}
 use Rattle.evplay.specs.Run.{answer_of, script_over, MayRun}
-use Rattle.evplay.specs.CameTo.{CameTo, EndedAt, PortKnown, StandsAfter, closing_plan, point_of}
+use Rattle.evplay.specs.CameTo.{CameTo, CameToEnd, EndedAt, StandsAfter, ToldTo, closing_plan}
 use Rattle.evplay.specs.declared.run.RunEnd.{RunEnd}
 use Rattle.evplay.specs.declared.run.RunEnd.TheVariants as run_end
 use Rattle.evplay.proofs.CalledLemmas.{called-by}
 use Rattle.evplay.proofs.HeadlineLemmas.{run-of}
 use Rattle.evplay.proofs.PlayedLemmas.{played-of}
-use Rattle.evplay.proofs.TurnLemmas.{between-of}
 
 -- a run that stands between two turns has ended with them, as far as it went
 pub ended-between : (g : Settings) (n : ℕ) (plan : ScriptPlan) (d : DriveValue) (p : PortState) (t : Trace) →
@@ -108,3 +112,49 @@ module _ (script : ScriptValue) (how : Ending) (handed : HandedIn) (n : ℕ) (g 
       (played-to end came called)))
       (subst (λ z. EndsAs how first.turns z (answer_of end) closing t) on ends)
       e.asks asked (subst (λ z. AtTurnEnds (StoodBetween z) t) on e.ends)
+
+-- hooks that told a plan asked what is planned
+pub planned-to : {H : Type 0} (tells : Telling H) (end : RunEnd) (plan : SideId → List PlanLine) (hooks gone : List (Option H)) (t : Trace) →
+    ToldTo tells end plan hooks gone t → AskPlanned plan (answer_of end) t
+planned-to tells run_end.Went p hooks gone t told = all_told-planned tells p hooks gone t told
+planned-to tells run_end.PollFailed plan hooks gone t told = told
+planned-to tells (run_end.Stopped link turn) plan hooks gone t told = told
+
+module _ (script : ScriptValue) (how : Ending) (handed : HandedIn) (n : ℕ) (g : Settings) (first : PortState) (ready : MayRun n g first)
+    (on : g ≡ settings_on script handed) where
+  -- a run without closing turns
+  pub run-ended : (end : RunEnd) (d : DriveValue) (p : PortState) (t : Trace) → CameTo g n end (first_plan first.turns (closing_step g)) d p t →
+      (how ≡ ending.LastTurn) ⊎ (end ≢ run_end.Went) →
+      (handed.tell ≡ true → AskPlanned (plan_of (script_run script)) (answer_of end) t) →
+      IsRun (script_over script first) how handed (answer_of end) t (lines_below d.state d.state.plain.opened)
+  run-ended end d p t came early asked =
+      let same : n ≡ n + 0 = omega arith in
+      let is : CameTo g (n + 0) end (first_plan first.turns (closing_step g)) d p t =
+      subst (λ m. CameTo g m end (first_plan first.turns (closing_step g)) d p t) same came in
+      run-to script how handed n g first p 0 d t ready on end is (ends how early) asked
+    where
+      few : begun first.turns t ≤ length first.turns
+      few = let e = ended-of g n end (first_plan first.turns (closing_step g)) d p t came in
+          let turns = e.turns in
+          let many = ready.many in
+          omega (arith, turns, many, begun-is first.turns t)
+
+      not-went : (x : RunEnd) → x ≢ run_end.Went → answer_of x ≢ TurnAnswer.Went
+      not-went run_end.Went far is = far refl
+      not-went run_end.PollFailed far is = absurd (cc is)
+      not-went (run_end.Stopped link turn) far is = absurd (cc is)
+
+      ends : (h : Ending) → (h ≡ ending.LastTurn) ⊎ (end ≢ run_end.Went) → EndsAs h first.turns g (answer_of end) 0 t
+      ends ending.LastTurn e = refl
+      ends ending.Drained (inl e) = absurd (cc e)
+      ends ending.Drained (inr far) = inr (record { begun = few; ended = not-went end far })
+
+  -- a run with closing turns
+  pub run-drained : (end : RunEnd) (d : DriveValue) (p : PortState) (t : Trace) → how ≡ ending.Drained →
+      CameToEnd g first.turns (closing_step g) end d p t →
+      (handed.tell ≡ true → AskPlanned (plan_of (script_run script)) (answer_of end) t) →
+      IsRun (script_over script first) how handed (answer_of end) t (lines_below d.state d.state.plain.opened)
+  run-drained end d p t drained came asked =
+      run-to script how handed n g first p came.closing d t ready on end
+      (subst (λ m. CameTo g (m + came.closing) end (closing_plan first.turns (closing_step g) came.closing) d p t) (sym ready.many) came.came)
+      (subst (λ h. EndsAs h first.turns g (answer_of end) came.closing t) (sym drained) (inl came.drains)) asked

@@ -147,6 +147,14 @@ trace_in log = unwrap_or log []
 pub some-and : (P : Trace → Type 0) (log : Option Trace) (t : Trace) → log ≡ Some t → P t → IsSomeAnd log P
 some-and P log t is p = subst (λ z. IsSomeAnd z P) (sym is) p
 
+-- a trace that is told, and what holds of it
+pub told-so : (log : Option Trace) (P : Trace → Type 0) → IsSomeAnd log P → (log ≡ Some (trace_in log)) × P (trace_in log)
+told-so (Some t) P h = (refl, h)
+told-so None P h = absurd h
+
+pub told-now : (log : Option Trace) (P : Trace → Type 0) → log ≡ Some (trace_in log) → IsSomeAnd log P → P (trace_in log)
+told-now log P is h = (told-so log P h).1
+
 -- a log that is told one turn more is that of the longer trace
 pub told-longer : (log log' : Option Trace) (added : Trace) → log ≡ Some (trace_in log) → Grew log log' added →
     (trace_in log' ≡ trace_in log ++ added) × (log' ≡ Some (trace_in log'))

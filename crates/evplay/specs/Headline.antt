@@ -41,7 +41,7 @@ settings_on script handed = run_settings (script_run script) handed.many
 -- A hook or a failed poll ended a run within the turns of its script.
 pub record EndedEarly (turns : List ScriptTurn) (answer : TurnAnswer) (t : Trace) : Type 0 where
   pub begun : begun turns t ≤ length turns
-  pub answer : answer ≢ TurnAnswer.Went
+  pub ended : answer ≢ TurnAnswer.Went
 
 -- It drains its links, and the first closing turn begins where the script's last turn ended.
 abbrev pub DrainsByTurns : List ScriptTurn → Settings → TurnAnswer → Trace → Type 0

@@ -1,5 +1,5 @@
 // The turns of a run over a port that answers by a script: one for each turn of the script, and closing turns behind them.
-ghost use Rattle.std.specs.Prelude.{◌≡◌, [], Ok, Some, IfOk, IfErr, IsSomeAnd, List};
+ghost use Rattle.std.specs.Prelude.{◌≡◌, ℕ, [], Ok, Some, IfOk, IfErr, IsSomeAnd, List};
 ghost use Rattle.ev_types.specs.declared.plan_line.PlanLine.{PlanLine};
 ghost use Rattle.ev_types.specs.declared.side.SideId.{SideId};
 ghost use Rattle.relay_model.specs.Script.{closing_step};

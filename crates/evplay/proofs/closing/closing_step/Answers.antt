@@ -1,4 +1,4 @@
-use Rattle.std.proofs.Common.{◌≡◌, ◌==◌, ◌++◌, ◌∷◌, [], ℕ, List, max, Option, Some, None, map, refl, sym, ap, ◌∙◌, if◌then◌else◌}
+use Rattle.std.proofs.Common.{◌≡◌, ◌==◌, ◌++◌, ◌∷◌, [], ℕ, List, max, Option, Some, None, map, refl, sym, ap, ◌∙◌, if◌then◌else◌, arith}
 use Rattle.std.specs.Prelude.{fold, option_map, option_to_list}
 use Rattle.std.specs.Option.{option_map_or}
 use Rattle.token_bucket.specs.declared.limit.LimitCfg.{LimitCfg}

@@ -17,8 +17,8 @@ one_more groups i n more start x lt is larger h =
 
 pub loop-group-preserved : goal.loop-group-preserved
 loop-group-preserved c =
-    one_more c.args.groups.now c.loop-group.group-index c.loop-group.longest c.max-longest.result c.args.tick c.loop-group-item.result
-    c.loop-group-test.true c.loop-group-item.is (c.max-longest.ensures ∙ ap (λ n. max c.loop-group.longest n) c.tick_ms.ensures)
+    one_more c.args.groups.now c.loop-group.group-index c.loop-group.longest c.max-longest.result c.args.tick c.group-item.result
+    c.loop-group-test.true c.group-item.is (c.max-longest.ensures ∙ ap (λ n. max c.loop-group.longest n) c.tick_ms.ensures)
     c.loop-group.invariant
 
 pub returns : goal.returns

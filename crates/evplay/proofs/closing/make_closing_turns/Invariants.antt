@@ -1,4 +1,4 @@
-use Rattle.std.proofs.Common.{◌≡◌, ◌≤◌, ◌+◌, ◌^◌, ℕ, List, Some, length}
+use Rattle.std.proofs.Common.{◌≡◌, ◌≤◌, ◌+◌, ◌-◌, ◌^◌, ℕ, List, Some, length}
 use Rattle.ev_types.specs.declared.plan_line.PlanLine.{PlanLine}
 use Rattle.ev_types.specs.declared.side.SideId.{SideId}
 use Rattle.std.specs.Prelude.{IsSomeAnd}
@@ -12,8 +12,8 @@ use Rattle.evplay.proofs.closing.make_closing_turns.Given as goal
 
 -- The scribe tells a trace for which the run stands between two turns; what stands in it behind the script's turns are closing turns, each
 -- of which was called for. Hooks have told what the trace says.
-abbrev pub invariant-loop : goal.invariant-loop
-invariant-loop g l = record {
+abbrev pub invariant-loop-made : goal.invariant-loop-made
+invariant-loop-made g l = record {
   tells : g.S.Scribe.trace l.scribe ≡ Some (trace_in (g.S.Scribe.trace l.scribe));
   stands : StandsAfter l.fn.drive.state.settings (length l.fn.port.turns + l.made) (closing_plan l.fn.port.turns l.step l.made) l.drive
       l.port (trace_in (g.S.Scribe.trace l.scribe));
@@ -31,3 +31,6 @@ invariant-loop g l = record {
       (λ h. (goal.Hook-dyn g (h.vtable, h.value)).asked h.value) (λ h. (goal.Hook-dyn g (h.vtable, h.value)).planned h.value)) plan
       l.seats.hooks.items l.seats.gone.items (trace_in (g.S.Scribe.trace l.scribe));
 }
+
+abbrev pub decreases-loop-made : goal.decreases-loop-made
+decreases-loop-made g l = l.most - l.made

@@ -7,6 +7,7 @@ use Rattle.ev_types.specs.declared.settings.Settings.{Settings}
 use Rattle.ev_types.specs.declared.side.SideId.{SideId}
 use Rattle.ev_types.specs.Sides.{number}
 use Rattle.rate_group.specs.declared.group_set.GroupSet.{GroupSet}
+use Rattle.script_port.specs.ScriptPlan.{first_plan}
 use Rattle.script_port.specs.ScriptPort.{new_port}
 use Rattle.script_port.specs.ScriptVouched.{ScriptVouches}
 use Rattle.script_text.specs.declared.script.Script.TheInside.{Inside}
@@ -100,7 +101,7 @@ run_over-requires-clause-may_run g c =
     let first = c.in_ok-port.ensures.at_first ∙ ap (λ (z : ScriptValue). new_port z.turns) e.rest in
     subst (λ p. MayRun c.len-turns.result (settings_given now.settings given hooks) p) (sym first) (record {
       many = omega (arith, c.len-turns.ensures, now.turns.ok.0, turns-seen now script left);
-      few = c.requires.few;
+      small = c.requires.small;
       names = c.requires.names;
       brings = c.requires.brings;
       links = ap (λ (z : Settings). z.links) set ∙ c.requires.links;
@@ -108,8 +109,9 @@ run_over-requires-clause-may_run g c =
       groups = groups-given now.settings given hooks (took-fit script given took c.requires.groups);
       timeouts = timed-as now.settings given hooks script set c.requires.timeouts;
       fresh = refl;
-      vouched = subst (λ p. ScriptVouches p script.turns []) first
-          (subst (λ (z : ScriptValue). ScriptVouches c.in_ok-port.port z.turns []) e.rest c.in_ok-port.ensures.vouched);
+      vouched = λ step. subst (λ p. ScriptVouches p (first_plan script.turns step) []) first
+          (subst (λ (z : ScriptValue). ScriptVouches c.in_ok-port.port (first_plan z.turns step) []) e.rest
+          (c.in_ok-port.ensures.vouched step));
     })
 
 pub returns-clause-text : goal.returns-clause-text
@@ -129,5 +131,5 @@ returns-clause-text g c =
     let set = took-set script handed now.settings given (seated_sides c.in_ok-seats.seats.hooks.items) (settings-seen now script left) took
     seats.sides in
     let first = c.in_ok-port.ensures.at_first ∙ ap (λ (z : ScriptValue). new_port z.turns) e.rest in
-    subst (λ z. IfOk c.run_over.result (λ ran. IsRunText z handed ran.1 ran.0.items))
+    subst (λ z. IfOk c.run_over.result (λ ran. IsRunText z c.args.how handed ran.1 ran.0.items))
     (ap (λ p. script_over script p) first) (c.run_over.ensures.text script handed set seats)

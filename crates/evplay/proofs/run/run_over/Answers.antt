@@ -1,4 +1,6 @@
-use Rattle.std.proofs.Common.{◌≡◌, ◌⊎◌, inl, inr, ap, ◌∙◌, subst, Result, Ok, Err, IfOk, IfErr}
+use Rattle.std.proofs.Common.{◌≡◌, ◌⊎◌, inl, inr, ap, ◌∙◌, subst, Option, Some, None, Result, Ok, Err, IfOk, IfErr, refl, sym}
+use Rattle.std.specs.Prelude.{IsSomeAnd}
+use Rattle.ev_types.specs.Trace.{Trace}
 use Rattle.relay_drive.specs.declared.fault.DriveFault.TheVariants as fault
 use Rattle.relay_drive.specs.DriveValue.{DriveValue}
 use Rattle.relay_laws.specs.Report.{lines_below}
@@ -19,21 +21,16 @@ err-then P ended (Ok b) p q = tt
 err-then P ended (Err e) p (inl h) = h
 err-then P ended (Err e) p (inr h) = subst (λ z. IfErr z P) h p
 
-both : {A E : Type 0} (P Q : A → Type 0) (r : Result A E) → IfOk r P → IfOk r Q → IfOk r (λ a. P a × Q a)
-both P Q (Ok a) p q = (p, q)
-both P Q (Err e) p q = tt
-
 pub returns-clause-text : goal.returns-clause-text
 returns-clause-text g c = λ script handed on seats.
     let over = script_over script c.args.port.now in
     let began = ap (λ (d : DriveValue). d.state.settings) c.in_ok-drive.ensures.value in
     let s = c.make_turns-ended.new.drive.state in
     let t = c.make_turns-ended.new.scribe.trace in
-    ok-then (λ end. IsRun over handed (answer_of end) t (lines_below s s.plain.opened) × TellsTurn end t) _
-    (λ ran. IsRunText over handed ran.1 ran.0.items)
+    ok-then (λ end. IsRun over c.args.how handed (answer_of end) t (lines_below s s.plain.opened) × TellsTurn end t) _
+    (λ ran. IsRunText over c.args.how handed ran.1 ran.0.items)
     (λ ran. ran.1) c.make_turns-ended.result c.text_of.result
-    (both (λ end. IsRun over handed (answer_of end) t (lines_below s s.plain.opened)) (λ end. TellsTurn end t) c.make_turns-ended.result
-    (c.make_turns-ended.ensures.made script handed (began ∙ on) seats) c.make_turns-ended.ensures.turn) c.text_of.ensures.text
+    (c.make_turns-ended.ensures.made script handed (began ∙ on) seats) c.text_of.ensures.text
     (λ ran made is. (t, lines_below s s.plain.opened, made.0, made.1, is))
 
 pub returns-clause-only_memory : goal.returns-clause-only_memory

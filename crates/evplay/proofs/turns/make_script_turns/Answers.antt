@@ -1,4 +1,4 @@
-use Rattle.std.proofs.Common.{◌≡◌, ◌≢◌, ◌⊎◌, inl, inr, ◌≤◌, ◌<◌, ◌+◌, ◌++◌, ◌^◌, ◌-◌, ℕ, Some, None, min, refl, ap, sym, ◌∙◌}
+use Rattle.std.proofs.Common.{◌≡◌, ◌≢◌, ◌⊎◌, inl, inr, ◌≤◌, ◌<◌, ◌+◌, ◌++◌, ◌^◌, ◌-◌, ℕ, Some, None, min, [], refl, ap, sym, ◌∙◌}
 use Rattle.std.proofs.Common.{subst, arith, Ok, IfOk, IfErr}
 use Rattle.std.specs.Prelude.{count_by, IsSomeAnd}
 use Rattle.script_port.specs.ScriptPlan.{first_plan, ScriptPlan}
