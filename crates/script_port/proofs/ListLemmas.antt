@@ -1,6 +1,6 @@
 -- A list with one element changed.
 use Rattle.std.proofs.Common.{◌≡◌, ◌≢◌, ℕ, zero, suc, ◌<◌, ◌≤◌, List, [], ◌∷◌, length, get_or, set, map, refl, sym, ap, ◌∙◌, arith, Some}
-use Rattle.std.proofs.Common.{None, ◌+◌, ◌++◌, take, drop}
+use Rattle.std.proofs.Common.{None, ◌++◌, take, drop}
 use Rattle.std.specs.Prelude.{slice_get, option_map}
 use Rattle.std.specs.Option.{option_map_or}
 use Rattle.script_port.specs.ScriptLinks.{changed}

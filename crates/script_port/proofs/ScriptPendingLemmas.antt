@@ -1,5 +1,5 @@
 -- What is pending at all ends of a script port, side by side.
-use Rattle.std.proofs.Common.{◌≡◌, ℕ, zero, suc, ◌+◌, ◌*◌, List, [], ◌∷◌, ◌++◌, length, drop, map, Some, refl, sym, ap, subst, ◌∙◌, arith}
+use Rattle.std.proofs.Common.{◌≡◌, ℕ, zero, suc, ◌+◌, ◌*◌, List, [], ◌∷◌, length, drop, map, Some, refl, sym, ap, ◌∙◌, arith}
 use Rattle.std.specs.Prelude.{slice_get, sum_by}
 use Rattle.std.proofs.Math.Seq.{drop-append_seam}
 use Rattle.std.proofs.lemmas.List.Sums.{sum_by-cons}
@@ -7,15 +7,13 @@ use Rattle.ev_types.specs.declared.side.Side.{Side}
 use Rattle.ev_types.specs.declared.side.Side.TheVariants.{In, Out}
 use Rattle.ev_types.specs.declared.side.SideId.{SideId}
 use Rattle.ev_types.specs.ScriptTurn.{lines_of}
-use Rattle.ev_types.specs.Sides.{half, number}
-use Rattle.ev_types.specs.Trace.{Trace}
+use Rattle.ev_types.specs.Sides.{half}
 use Rattle.relay_model.specs.Plain.{sides_from}
 use Rattle.relay_model.specs.Scripted.{pending}
 use Rattle.relay_model.specs.Trace.{bytes_read}
 use Rattle.script_port.specs.ScriptLinks.{links_of}
 use Rattle.script_port.specs.ScriptPlays.{PendingIsScripted}
-use Rattle.script_port.specs.ScriptState.{EndState, EndKept, PortState}
-use Rattle.script_port.specs.ScriptVouched.{PortStands}
+use Rattle.script_port.specs.ScriptState.{EndState, EndKept}
 
 -- the bytes that are pending at ends as they are kept
 pub sum_of_states : (es : List EndKept) → sum_by (λ (e : EndKept). length e.state.pending) es ≡

@@ -1,5 +1,5 @@
 -- The laws that every port owes, of a script port. Each port proves them, so their proofs stand here.
-use Rattle.std.specs.Prelude.{◌≡◌, ◌+◌, ◌≤◌, Bool, true, false, ◌||◌, if◌then◌else◌, List, [], ◌∷◌, ◌++◌, length, take, drop, count_by}
+use Rattle.std.specs.Prelude.{◌≡◌, ◌+◌, ◌≤◌, Bool, true, false, ◌||◌, if◌then◌else◌, [], ◌∷◌, ◌++◌, length, take, drop, count_by}
 use Rattle.std.specs.Prelude.{refl}
 use Rattle.std.specs.List.{flat_map, list_any}
 use Rattle.std.proofs.Common.{subst, sym, ap, ◌∙◌, append_assoc}

@@ -1,7 +1,7 @@
 -- What the lines of a script and the calls of a port make of the links of the script. A line or a call that names an
 -- end of no such link changes nothing.
-use Rattle.std.specs.Prelude.{◌≡◌, ◌≢◌, ℕ, ◌-◌, ◌^◌, ◌<◌, ◌==◌, length, zero, suc, Bool, true, false, ◌&&◌, ◌||◌, not, if◌then◌else◌, List, []}
-use Rattle.std.specs.Prelude.{◌∷◌, ◌++◌, Option, None, slice_get}
+use Rattle.std.specs.Prelude.{◌≡◌, ◌≢◌, ℕ, ◌-◌, ◌^◌, ◌<◌, ◌==◌, length, zero, suc, Bool, true, false, ◌&&◌, ◌||◌, not, if◌then◌else◌}
+use Rattle.std.specs.Prelude.{List, [], ◌∷◌, ◌++◌, Option, None, slice_get}
 use Rattle.std.specs.Option.{option_map_or}
 use Rattle.ev_types.specs.declared.side.SideId.{SideId}
 use Rattle.ev_types.specs.declared.side.Side.TheVariants.{In, Out}

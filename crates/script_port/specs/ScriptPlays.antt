@@ -19,7 +19,8 @@ use Rattle.script_port.specs.ScriptVouched.{PortStands, ScriptVouches, NoneWaits
 -- script, where it is called for: by the run that took all links, and whose answer says so much of its turns.
 abbrev pub VouchedIsPlayed : Type 0
 VouchedIsPlayed = (script : Script) (p : PortState) (t : Trace) (closing announced : ℕ) (answer : TurnAnswer) →
-    ScriptVouches p (plan_of_run script announced) t → IsCalledBy (plan_of_run script announced) t → AlwaysTookAll script.turns script.settings.links [] t →
+    ScriptVouches p (plan_of_run script announced) t → IsCalledBy (plan_of_run script announced) t →
+    AlwaysTookAll script.turns script.settings.links [] t →
     EndsPlayed script.turns script.settings.links (length script.turns + closing) answer t → Plays script closing answer t
 
 -- Where no link waits by a plan, none does by any other plan of the same script.

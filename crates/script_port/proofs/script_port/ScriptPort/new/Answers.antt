@@ -1,4 +1,4 @@
-use Rattle.std.proofs.Common.{◌<◌, ◌≤◌, length, map, ap, ◌∙◌, arith}
+use Rattle.std.proofs.Common.{◌^◌, ◌<◌, ◌≤◌, length, map, ap, ◌∙◌, arith}
 use Rattle.std.proofs.lemmas.List.{length-map}
 use Rattle.script_port.specs.ScriptState.{LinksKept}
 use Rattle.script_port.specs.ScriptLinks.{links_of}
@@ -34,13 +34,16 @@ invariant_of-result c =
     ) in
     let all_links = links_done turns c.loop-lines.lines-index c.loop-lines.links _ past first ∙ ap (with_links (links_of xs))
     c.new-links.ensures in
+    let as_long = ap length c.deref-lines-items.ensures.value in
+    let fits : length turns < 2 ^ 64 = omega (arith, length-map items shown_turn, c.deref-lines-items.ensures.len, as_long) in
     let kept = rw (← c.script.view_is) at c.in_ok-turns.ensures in
-    rw kept.turns
-    ((all_to_come xs c.keep.new.links
-    (ap (λ (l : LinksKept). l.to_open) kept.links ∙ ap (λ (l : LinksKept). l.to_open) all_links)
-    (ap (λ (l : LinksKept). l.state.ends) kept.links ∙ ap (λ (l : LinksKept). l.state.ends) all_links)
-    (ap (λ (l : LinksKept). l.to_come) kept.links ∙ ap (λ (l : LinksKept). with_all_bytes xs l.to_come) all_links)),
-    closes_first (length turns) (omega (arith, length-map items shown_turn, c.deref-lines-items.ensures.len, ap length c.deref-lines-items.ensures.value)))
+    rw kept.turns (
+      (all_to_come xs c.keep.new.links
+          (ap (λ (l : LinksKept). l.to_open) kept.links ∙ ap (λ (l : LinksKept). l.to_open) all_links)
+          (ap (λ (l : LinksKept). l.state.ends) kept.links ∙ ap (λ (l : LinksKept). l.state.ends) all_links)
+          (ap (λ (l : LinksKept). l.to_come) kept.links ∙ ap (λ (l : LinksKept). with_all_bytes xs l.to_come) all_links)),
+      closes_first (length turns) fits,
+    )
 
 pub returns-clause-vouched : goal.returns-clause-vouched
 returns-clause-vouched c =
