@@ -1,11 +1,12 @@
 -- What holds of a generated script.
-use Rattle.std.proofs.Common.{◌≡◌, ◌≤◌, ◌<◌, ◌+◌, ◌*◌, ◌^◌, ℕ, zero, suc, List, [], ◌∷◌, length, refl, arith}
+use Rattle.std.proofs.Common.{◌<◌, ◌≡◌, ◌≤◌, ◌+◌, ◌*◌, ◌^◌, ℕ, zero, suc, [], ◌∷◌, length, refl, arith}
 use Rattle.std.specs.Prelude.{All, replicate, false}
 use Rattle.std.proofs.lemmas.List.Elements.{All-cons, All-nil}
 use Rattle.ev_types.specs.ScriptTurn.{ScriptTurn}
 use Rattle.ev_types.specs.declared.turn_line.TurnLine.TheVariants as line
-use Rattle.big_script.specs.BigScript.{idle_turns, turns_with_each, big_script_of, lines_from}
-use Rattle.big_script.specs.BigLaws.{IsBig, BigScriptsAreBig}
+use Rattle.big_script.specs.BigScript.{idle_turns, turns_with_each, lines_from}
+use Rattle.rate_group.specs.declared.group_set.GroupSet.{GroupSet}
+use Rattle.big_script.specs.BigLaws.{BigScriptsAreBig, BigGroupsAreSet}
 use Rattle.big_script.proofs.LineLemmas.{length-opened, names-turns, all_brought-turns, brings-turns}
 
 -- so many turns a second apart stand at moments of at most 2^40
@@ -38,4 +39,13 @@ big_scripts_are_big links = record {
   names = names-turns 3000 links;
   brought = all_brought-turns 3000 links;
   each = λ e. brings-turns e 3000 links;
+}
+
+-- no groups are in order
+pub big_groups_are_set : BigGroupsAreSet
+big_groups_are_set links = record {
+  few = omega arith;
+  shares = All-nil (λ (x : GroupSet). 0 < x.share);
+  in_group = tt;
+  out_group = tt;
 }

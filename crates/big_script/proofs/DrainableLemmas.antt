@@ -1,18 +1,16 @@
 -- The links of a generated script can be drained.
-use Rattle.std.proofs.Common.{◌≡◌, ◌≤◌, ◌<◌, ◌+◌, ℕ, zero, suc, Bool, true, false, List, [], ◌∷◌, ◌++◌, length, refl, ap, sym, ◌∙◌, arith, subst}
+use Rattle.std.proofs.Common.{◌≡◌, ◌≤◌, ◌<◌, ◌+◌, ℕ, zero, suc, Bool, true, false, List, [], ◌++◌, refl, ap, ◌∙◌, arith}
 use Rattle.std.proofs.Common.{◌&&◌, ◌||◌, not, eq-eqb, ◌⊎◌, inl, inr}
 use Rattle.std.specs.Prelude.{replicate, ◌==◌}
 use Rattle.std.specs.List.{flat_map, list_any}
-use Rattle.std.proofs.lemmas.Grind.{flat_map-append}
-use Rattle.std.proofs.lemmas.List.Folds.{list_any-append}
+use Rattle.std.proofs.Math.Nat.{eq-or-lt_of_le}
 use Rattle.ev_types.specs.declared.side.Side.{Side}
 use Rattle.ev_types.specs.declared.side.Side.TheVariants.{In, Out}
 use Rattle.ev_types.specs.declared.side.SideId.{SideId}
 use Rattle.ev_types.specs.Sides.{same_end, same_side}
 use Rattle.ev_types.specs.declared.turn_line.TurnLine.{TurnLine}
 use Rattle.ev_types.specs.declared.turn_line.TurnLine.TheVariants as line
-use Rattle.ev_types.specs.ScriptTurn.{ScriptTurn, lines_of}
-use Rattle.relay_model.specs.ClosingTurns.{scripted_links, IsDrainable}
+use Rattle.relay_model.specs.ClosingTurns.{IsDrainable}
 use Rattle.relay_model.specs.Lines.{ends, fails_reads, decides}
 use Rattle.big_script.specs.Generated.{number_after}
 use Rattle.big_script.specs.BigScript.{lines_from, turns_with_each, in_side_of, out_side_of}
@@ -35,17 +33,16 @@ ends-lines_from : (e : SideId) (each n link x : ℕ) → link ≤ e.link → e.l
     list_any (ends e) (lines_from each n link x) ≡ true
 ends-lines_from e each zero link x low high = absurd (omega (arith, low, high))
 ends-lines_from e each (suc n) link x low high =
-    go (λ later. ends-lines_from e each n (link + 1) (number_after each x) later (let h : e.link < link + 1 + n = omega (arith, high) in h))
-    (split link e.link low)
+    go (λ later.
+    let below : link + 1 ≤ e.link = omega (arith, later) in
+    let within : e.link < link + 1 + n = omega (arith, high) in
+    ends-lines_from e each n (link + 1) (number_after each x) below within)
+    (eq-or-lt_of_le low)
   where
-    split : (a b : ℕ) → a ≤ b → (a ≡ b) ⊎ (a + 1 ≤ b)
-    split a b h = omega (arith, h)
-
     rest : Bool
     rest = list_any (ends e) (lines_from each n (link + 1) (number_after each x))
 
-    go : (link + 1 ≤ e.link → rest ≡ true) → (link ≡ e.link) ⊎ (link + 1 ≤ e.link) →
-        list_any (ends e) (lines_from each (suc n) link x) ≡ true
+    go : (link < e.link → rest ≡ true) → (link ≡ e.link) ⊎ (link < e.link) → list_any (ends e) (lines_from each (suc n) link x) ≡ true
     go next (inl same) = one-of-both (link == e.link) e.side rest (eq-eqb link e.link same)
     go next (inr later) = or-last (same_end (in_side_of link) e) (same_end (out_side_of link) e) rest (next later)
 

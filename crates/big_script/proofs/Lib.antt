@@ -3,3 +3,4 @@ pub mod LineLemmas
 pub mod BigLemmas
 pub mod DrainableLemmas
 pub mod PutLemmas
+mod Examples

@@ -1,23 +1,22 @@
 -- The lines of a generated script: what they open, name and bring in.
-use Rattle.std.proofs.Common.{◌≡◌, ◌≤◌, ◌<◌, ◌+◌, ◌*◌, ◌^◌, ℕ, zero, suc, Bool, true, false, List, [], ◌∷◌, ◌++◌, length, refl, ap, sym, ◌∙◌}
-use Rattle.std.proofs.Common.{arith, subst, append-nil, append_assoc, length-append, ◌||◌, not, Some, None, if◌then◌else◌}
-use Rattle.std.specs.Prelude.{All, replicate, sum_by}
-use Rattle.std.specs.List.{flat_map, list_any}
+use Rattle.std.proofs.Common.{◌≡◌, ◌≤◌, ◌<◌, ◌+◌, ◌*◌, ℕ, zero, suc, Bool, true, false, List, [], ◌++◌, length, refl, ap, sym, ◌∙◌}
+use Rattle.std.proofs.Common.{arith, subst, append-nil, length-append, if◌then◌else◌}
+use Rattle.std.specs.Prelude.{replicate}
+use Rattle.std.specs.List.{flat_map}
 use Rattle.std.proofs.lemmas.Grind.{flat_map-append}
 use Rattle.std.proofs.lemmas.List.Elements.{All-append, All-nil}
-use Rattle.std.proofs.lemmas.List.Folds.{list_any-append}
-use Rattle.std.proofs.lemmas.List.Sums.{sum_by-append, sum_by-cons}
+use Rattle.std.proofs.lemmas.List.Sums.{sum_by-append}
 use Rattle.ev_types.specs.declared.side.SideId.{SideId}
 use Rattle.ev_types.specs.Sides.{same_end}
 use Rattle.ev_types.specs.declared.turn_line.TurnLine.{TurnLine}
 use Rattle.ev_types.specs.declared.turn_line.TurnLine.TheVariants as line
-use Rattle.ev_types.specs.ScriptTurn.{ScriptTurn, lines_of}
+use Rattle.ev_types.specs.ScriptTurn.{lines_of}
 use Rattle.script_text.specs.Brought.{all_brought, brought}
 use Rattle.relay_model.specs.Called.{NamesOpened}
 use Rattle.relay_model.specs.ClosingTurns.{scripted_links}
-use Rattle.relay_model.specs.Lines.{links_by, brings, ends, fails_reads, decides}
+use Rattle.relay_model.specs.Lines.{links_by, brings}
 use Rattle.big_script.specs.Generated.{generated, number_after}
-use Rattle.big_script.specs.BigScript.{lines_with, lines_from, idle_turns, turns_with_each, in_side_of, out_side_of}
+use Rattle.big_script.specs.BigScript.{lines_with, lines_from, turns_with_each, in_side_of}
 use Rattle.big_script.specs.BigLaws.{AreFewBytes}
 use Rattle.big_script.proofs.GeneratedLemmas.{length-generated, generated-bytes}
 

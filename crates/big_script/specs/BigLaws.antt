@@ -4,6 +4,7 @@ use Rattle.std.specs.List.{flat_map}
 use Rattle.ev_types.specs.declared.side.SideId.{SideId}
 use Rattle.ev_types.specs.ScriptTurn.{ScriptTurn, lines_of}
 use Rattle.script_text.specs.Brought.{all_brought}
+use Rattle.script_text.specs.GroupsAreSet.{GroupsAreSet}
 use Rattle.relay_model.specs.Called.{NamesOpened}
 use Rattle.relay_model.specs.ClosingTurns.{scripted_links, IsDrainable}
 use Rattle.relay_model.specs.Lines.{brings}
@@ -30,3 +31,7 @@ BigScriptsAreBig = (links : ℕ) → IsBig links (big_script_of links).turns
 -- Each end of its links has its end in it, no reads fail, and no link is refused.
 abbrev pub BigScriptsAreDrainable : Type 0
 BigScriptsAreDrainable = (links : ℕ) → IsDrainable (big_script_of links).turns
+
+-- It has no groups, and no side is in one.
+abbrev pub BigGroupsAreSet : Type 0
+BigGroupsAreSet = (links : ℕ) → GroupsAreSet (big_script_of links).groups (big_script_of links).members

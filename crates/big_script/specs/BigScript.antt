@@ -1,5 +1,5 @@
 -- A generated script of so many links, each with so many bytes that come in at once, and ten turns more with no lines.
-use Rattle.std.specs.Prelude.{ℕ, zero, suc, ◌+◌, false, List, [], ◌∷◌, ◌++◌, replicate, Some, None}
+use Rattle.std.specs.Prelude.{ℕ, zero, suc, ◌+◌, false, List, [], ◌∷◌, ◌++◌, replicate, None}
 use Rattle.ev_types.specs.declared.filter.FilterKind.TheVariants as kind
 use Rattle.ev_types.specs.declared.settings.Settings.{Settings}
 use Rattle.ev_types.specs.declared.side.Side.TheVariants.{In, Out}

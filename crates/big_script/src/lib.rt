@@ -6,5 +6,5 @@ mod laws;
 mod lines;
 mod script;
 
-pub use laws::{big_scripts_are_big, big_scripts_are_drainable};
+pub use laws::{big_groups_are_set, big_scripts_are_big, big_scripts_are_drainable};
 pub use script::big_script;

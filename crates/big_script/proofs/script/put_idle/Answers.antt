@@ -1,4 +1,4 @@
-use Rattle.std.proofs.Common.{◌≡◌, ◌+◌, ◌-◌, ◌*◌, ◌++◌, List, refl, ap, ◌∙◌}
+use Rattle.std.proofs.Common.{◌+◌, ◌-◌, ◌*◌, ◌++◌, List, refl, ap, ◌∙◌}
 use Rattle.script_text.specs.ScriptView.{turn_values}
 use Rattle.script_text.proofs.TurnLemmas.{Turn}
 use Rattle.big_script.specs.BigScript.{idle_turns}

@@ -1,4 +1,3 @@
-use Rattle.std.proofs.Common.{◌≡◌}
 use Rattle.big_script.proofs.PutLemmas.{rate-is}
 use Rattle.big_script.proofs.script.rate.Goals as goal
 
