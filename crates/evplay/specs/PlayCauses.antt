@@ -1,5 +1,5 @@
 -- Why a call of `play` ended as it did, by the source and the sink beside their bytes.
-use Rattle.std.specs.Prelude.{◌≡◌, ◌≢◌, ◌+◌, ◌^◌, ⊤, Option, None}
+use Rattle.std.specs.Prelude.{◌≡◌, ◌≢◌, ◌+◌, ◌^◌, ⊤, Option}
 use Rattle.ev_types.specs.declared.status.Status.{Status}
 use Rattle.ev_types.specs.declared.status.Status.TheVariants as status
 use Rattle.ev_port.specs.FaultCounts.{Rose}
@@ -7,6 +7,7 @@ use Rattle.ev_port.specs.StreamBytes.{GaveAtMost, GaveCount}
 use Rattle.ev_port.specs.declared.stream.Sink as sink
 use Rattle.ev_port.specs.declared.stream.Source as source
 use Rattle.command_words.specs.declared.mode.ScriptKind.{ScriptKind}
+use Rattle.evplay.specs.Play.{ReadsNothing}
 
 -- with this status nothing is written
 abbrev pub IsUnwritten : Status → Type 0
@@ -23,7 +24,7 @@ IsUnwritten _ = ⊤
 pub record HasCauses {S K : Type 0} (g : source.Ghosts S) (h : sink.Ghosts K) (modes : Option ScriptKind) (ended : Status)
     (old new : S) (from to : K) : Type 0 where
   pub unread : ended ≡ status.Usage → new ≡ old
-  pub no_mode : modes ≡ None → new ≡ old
+  pub reads_nothing : ReadsNothing modes → new ≡ old
   pub unwritten : IsUnwritten ended → to ≡ from
   pub read_fault : ended ≡ status.ReadFault → Rose (g.faults old) (g.faults new)
   pub read_calm : ended ≢ status.ReadFault → g.faults new ≡ g.faults old

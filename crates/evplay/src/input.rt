@@ -1,8 +1,10 @@
 // Reads a source to its end.
-ghost use Rattle.std.specs.Prelude.{◌≡◌, ◌≤◌, ◌+◌, ◌^◌, length, IfOk, IsErrOf};
+ghost use Rattle.std.specs.Prelude.{◌≡◌, ◌≤◌, ◌+◌, ◌^◌, length, Some, IfOk, IsErrOf};
 ghost use Rattle.ev_port.specs.FaultCounts.{Rose};
 ghost use Rattle.ev_port.specs.StreamBytes.{GaveAll, GaveCount, GaveAtMost};
+ghost use Rattle.evplay.specs.Play.{GaveText, ReadsNothing};
 
+use command_words::ScriptKind;
 use ev_port::{Source, Taken};
 use std::alloc::Global;
 
@@ -21,7 +23,7 @@ pub enum ReadStop {
 }
 
 /// The bytes of a source, read to its end. Of a text that is too long one byte past the limit is read and no more.
-pub fn read_text<S: Source>(alloc: Global, source: &mut S) -> Result<Vec<u8>, ReadStop>
+fn read_text<S: Source>(alloc: Global, source: &mut S) -> Result<Vec<u8>, ReadStop>
     ensures text { IfOk result (λ text. GaveAll (S.left source.old) (S.left source.new) text.items) }
     ensures short { IfOk result (λ text. length text.items ≤ 2 ^ 24) }
 
@@ -49,4 +51,28 @@ pub fn read_text<S: Source>(alloc: Global, source: &mut S) -> Result<Vec<u8>, Re
         }
     }
     Err(ReadStop::TooLong)
+}
+
+/// The text of a script of this kind: the bytes of the source, read to its end; none for the generated script, which has no source.
+pub fn text_for<S: Source>(
+    alloc: Global,
+    mode: ScriptKind,
+    source: &mut S,
+) -> Result<Vec<u8>, ReadStop>
+    ensures text { IfOk result (λ text. GaveText mode (S.left source.old) (S.left source.new) text.items) }
+    ensures short { IfOk result (λ text. length text.items ≤ 2 ^ 24) }
+    ensures reads_nothing { ReadsNothing (Some mode) → source.new ≡ source.old }
+
+    ensures too_long { IsErrOf result ReadStop.TooLong → GaveCount (S.left source.old) (S.left source.new) (2 ^ 24 + 1) }
+    ensures not_too_long { ¬ IsErrOf result ReadStop.TooLong → GaveAtMost (S.left source.old) (S.left source.new) (2 ^ 24) }
+
+    ensures fault { IsErrOf result ReadStop.Fault → Rose (S.faults source.old) (S.faults source.new) }
+    ensures no_fault { ¬ IsErrOf result ReadStop.Fault → S.faults source.new ≡ S.faults source.old }
+{
+    match mode {
+        ScriptKind::Big(_) => Ok(Vec::new(alloc)),
+        ScriptKind::Relay(_) | ScriptKind::Buffers | ScriptKind::Base | ScriptKind::Pairs => {
+            read_text(alloc, source)
+        }
+    }
 }

@@ -3,6 +3,7 @@
 //! `play_program` does all that the program does; `main` hands it the words and the streams, and hands on its status.
 #![tactic(auto)]
 
+mod big;
 mod closing;
 mod hooks;
 mod input;
@@ -11,6 +12,7 @@ mod play;
 mod program;
 mod run;
 mod status;
+mod summary;
 mod turns;
 
 use command_words::program_words;

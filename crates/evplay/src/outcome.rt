@@ -1,12 +1,13 @@
 // What a script comes to, by its mode: the text that is to be written, and how the program ends once it is.
-ghost use Rattle.std.specs.Prelude.{◌≤◌, ◌^◌, length, IfOk, IfErr};
-ghost use Rattle.command_words.specs.declared.mode.ScriptKind.TheVariants.{Relay, Buffers, Base, Pairs};
+ghost use Rattle.std.specs.Prelude.{◌≤◌, ◌^◌, ℕ, List, length, IfOk, IfErr};
+ghost use Rattle.command_words.specs.declared.mode.ScriptKind.TheVariants.{Relay, Buffers, Base, Pairs, Big};
 ghost use Rattle.std.specs.List.{All};
 ghost use Rattle.relay_drive.specs.Seats.{telling};
 ghost use Rattle.program_end.specs.Planned.{IsFresh};
 ghost use Rattle.evplay.specs.HandedIn.{HandedIn, handed_in};
-ghost use Rattle.evplay.specs.Play.{ComesTo, Refuses};
+ghost use Rattle.evplay.specs.Play.{ComesTo, HasFewLinks, Refuses};
 
+use crate::big::big;
 use crate::run::run;
 use crate::status::{buffers_status, script_status};
 use base_mode::play_base;
@@ -28,8 +29,8 @@ pub struct Outcome {
     pub status: Status,
 }
 
-/// What the script of a text of at most 2^24 bytes comes to. Hooks are for links alone. A text that is no script of the mode is refused
-/// with its first bad line.
+/// What the script of a text of at most 2^24 bytes comes to, or the generated script, whatever the text. Hooks are for links alone. A text
+/// that is no script of the mode is refused with its first bad line.
 pub fn outcome_of(
     alloc: Global,
     mode: ScriptKind,
@@ -37,6 +38,7 @@ pub fn outcome_of(
     hooks: Vec<Box<dyn Hook>>,
 ) -> Result<Outcome, Status>
     requires short { length text.now ≤ 2 ^ 24 }
+    requires few { HasFewLinks mode }
     requires fresh { All (IsFresh (telling (λ h. heard h) (λ h. asked h) (λ h. planned h))) hooks.items }
     ensures comes_to { IfOk result (λ outcome. ComesTo mode
         (handed_in (telling (λ h. heard h) (λ h. asked h) (λ h. planned h)) hooks.items) text.now outcome.status outcome.text.items) }
@@ -47,7 +49,7 @@ pub fn outcome_of(
         ScriptKind::Buffers => buffers(alloc, text),
         ScriptKind::Base => base(alloc, text),
         ScriptKind::Pairs => pairs(alloc, text),
-        ScriptKind::Big(_) => Err(Status::Memory),
+        ScriptKind::Big(links) => generated(alloc, links),
     }
 }
 
@@ -72,6 +74,22 @@ fn relay(
         Ok((text, end)) => Ok(Outcome {
             text,
             status: end.status(),
+        }),
+        Err(fault) => Err(fault_status(fault)),
+    }
+}
+
+/// What the generated script of so many links comes to.
+fn generated(alloc: Global, links: u32) -> Result<Outcome, Status>
+    requires few { links ≤ 64 }
+    ensures comes_to { (handed : HandedIn) (source : List ℕ) →
+        IfOk result (λ outcome. ComesTo (Big links) handed source outcome.status outcome.text.items) }
+    ensures refused { (source : List ℕ) → IfErr result (λ status. Refuses (Big links) source status) }
+{
+    match big(alloc, links) {
+        Ok(text) => Ok(Outcome {
+            text,
+            status: Status::Ok,
         }),
         Err(fault) => Err(fault_status(fault)),
     }

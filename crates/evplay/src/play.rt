@@ -7,10 +7,10 @@ ghost use Rattle.std.specs.List.{All};
 ghost use Rattle.relay_drive.specs.Seats.{telling};
 ghost use Rattle.program_end.specs.Planned.{IsFresh};
 ghost use Rattle.evplay.specs.HandedIn.{handed_in};
-ghost use Rattle.evplay.specs.Play.{DidWith};
+ghost use Rattle.evplay.specs.Play.{DidWith, ReadsNothing};
 ghost use Rattle.evplay.specs.PlayCauses.{IsUnwritten};
 
-use crate::input::{ReadStop, read_text};
+use crate::input::{ReadStop, text_for};
 use crate::outcome::outcome_of;
 use command_words::mode_words;
 use ev_port::{Sink, Source};
@@ -19,7 +19,7 @@ use program_end::write_text;
 use relay_drive::Hook;
 use std::alloc::Global;
 
-/// Plays the script that a source spells, and writes what it comes to to a sink. It always returns. The words are
+/// Plays the script that a source spells, or the generated one, and writes what it comes to to a sink. It always returns. The words are
 /// those after the program's name. In a script of links the first hook is for side In of link 0, the second for side Out of it, and so on;
 /// each whose side has `on` lines gets those, and the others are let go. None of them was called yet.
 ///
@@ -41,7 +41,7 @@ pub fn play<S: Source, K: Sink>(
 
     // The words are looked at before all else. What is not written wholly or in part is not written at all.
     ensures unread { result ≡ Status.Usage → source.new ≡ source.old }
-    ensures no_mode { mode_of (map string_bytes words.now) ≡ None → source.new ≡ source.old }
+    ensures reads_nothing { ReadsNothing (mode_of (map string_bytes words.now)) → source.new ≡ source.old }
     ensures unwritten { IsUnwritten result → sink.new ≡ sink.old }
 
     // A fault is answered only where its count rose in this call. With every other answer the counts are as they were.
@@ -58,7 +58,7 @@ pub fn play<S: Source, K: Sink>(
         Ok(mode) => mode,
         Err(fault) => return fault.status(),
     };
-    let text = match read_text(alloc, source) {
+    let text = match text_for(alloc, mode, source) {
         Ok(text) => text,
         Err(ReadStop::Fault) => return Status::ReadFault,
         Err(ReadStop::TooLong) => return Status::TooLong,
