@@ -14,3 +14,6 @@ pub mod SizeLemmas
 pub mod TimeoutLemmas
 pub mod PlanLemmas
 pub mod HandedLemmas
+pub mod GivenLemmas
+pub mod BigLemmas
+pub mod ModeLemmas

@@ -1,9 +1,9 @@
 // The generated run: its script, its turns with closing turns behind them, and what is told of it.
-ghost use Rattle.std.specs.Prelude.{◌≡◌, ◌≤◌, ◌⊎◌, [], Ok, IfOk, IfErr, string_bytes};
-ghost use Rattle.ev_types.specs.declared.status.Status.TheVariants as status;
+ghost use Rattle.std.specs.Prelude.{◌≡◌, ◌≤◌, ◌⊎◌, [], Err, IfOk, IfErr};
 ghost use Rattle.big_script.specs.BigScript.{big_script_of};
 ghost use Rattle.relay_core.specs.GivenGroups.{AreGroups, settings_given};
 ghost use Rattle.relay_drive.specs.declared.fault.DriveFault.TheVariants.{Memory};
+ghost use Rattle.relay_drive.specs.Seats.{AreFresh};
 ghost use Rattle.relay_laws.specs.Report.{lines_below};
 ghost use Rattle.evplay.specs.Big.{summary_text, IsBigText, no_hooks};
 ghost use Rattle.evplay.specs.Headline.{settings_on};
@@ -48,7 +48,8 @@ fn big_over(
     port: &mut ScriptPort,
 ) -> Result<Vec<u8>, DriveFault>
     requires groups { AreGroups given }
-    requires no_hooks { (seats.old.hooks.items ≡ []) × (seats.old.gone.items ≡ []) }
+    requires no_hooks { seats.old.hooks.items ≡ [] }
+    requires fresh { AreFresh seats.old.hooks.items seats.old.gone.items }
     requires script { port.old.turns ≡ (big_script_of links).turns }
     requires settings { settings_given settings given [] ≡ settings_on (big_script_of links) no_hooks }
     requires may_run { MayRun turns (settings_given settings given []) port.old }

@@ -1,6 +1,7 @@
-use Rattle.std.proofs.Common.{◌≡◌, ◌==◌, ◌++◌, ◌∷◌, [], ℕ, List, max, Option, Some, None, map, refl, sym, ap, ◌∙◌, if◌then◌else◌, arith}
+use Rattle.std.proofs.Common.{◌≡◌, ◌==◌, ◌++◌, ◌∷◌, [], ℕ, Bool, true, false, List, max, Option, Some, None, map, refl, sym, ap, ◌∙◌, if◌then◌else◌, arith}
 use Rattle.std.specs.Prelude.{fold, option_map, option_to_list}
 use Rattle.std.specs.Option.{option_map_or}
+use Rattle.std.proofs.lemmas.Bool.{eqb-true}
 use Rattle.token_bucket.specs.declared.limit.LimitCfg.{LimitCfg}
 use Rattle.rate_group.specs.declared.group_set.GroupSet.{GroupSet}
 use Rattle.ev_types.specs.declared.side.SideId.{SideId}
@@ -42,6 +43,17 @@ greatest-is ins outs groups =
     ∙ longest-option (max 0 (option_map_or (λ (cfg : LimitCfg). cfg.tick_ms) ins 0)) outs)
     ∙ groups-same _ groups
 
-pub returns : goal.returns
-returns c = λ hooks.
-    sym (ap (λ n. if n == 0 then 1000 else n) (greatest-is c.args.settings.now.in_rate c.args.settings.now.out_rate c.args.given.now.groups.items))
+not-zero : (n : ℕ) → (n ≡ 0 → ⊥) → (n == 0) ≡ false
+not-zero n far = go (n == 0) refl
+  where
+    go : (b : Bool) → (n == 0) ≡ b → (n == 0) ≡ false
+    go true is = absurd (far (eqb-true n 0 is))
+    go false is = is
+
+pub returns-else-longest-eq0 : goal.returns-else-longest-eq0
+returns-else-longest-eq0 c = λ hooks.
+    let n = c.longest_tick-longest.result in
+    let step : ℕ → ℕ = λ m. if m == 0 then 1000 else m in
+    sym (ap (λ b. if b then 1000 else n) (not-zero n c.if-longest-eq0.false))
+    ∙ ap step (c.longest_tick-longest.ensures)
+    ∙ sym (ap step (greatest-is c.args.settings.now.in_rate c.args.settings.now.out_rate c.args.given.now.groups.items))

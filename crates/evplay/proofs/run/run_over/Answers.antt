@@ -3,6 +3,8 @@ use Rattle.std.specs.Prelude.{IsSomeAnd}
 use Rattle.ev_types.specs.Trace.{Trace}
 use Rattle.relay_drive.specs.declared.fault.DriveFault.TheVariants as fault
 use Rattle.relay_drive.specs.DriveValue.{DriveValue}
+use Rattle.relay_drive.specs.Seats.{seated_sides}
+use Rattle.relay_model.specs.Script.{closing_step}
 use Rattle.relay_laws.specs.Report.{lines_below}
 use Rattle.evplay.specs.Headline.{IsRun}
 use Rattle.evplay.specs.Play.{IsRunText}
@@ -37,3 +39,8 @@ pub returns-clause-only_memory : goal.returns-clause-only_memory
 returns-clause-only_memory g c =
     err-then (λ f. f ≡ fault.Memory) c.make_turns-ended.result c.text_of.result c.make_turns-ended.ensures.only_memory
     c.text_of.ensures.refused
+
+pub make_turns-ended-requires-clause-step : goal.make_turns-ended-requires-clause-step
+make_turns-ended-requires-clause-step g c =
+    c.closing_step-step.ensures (seated_sides c.args.seats.now.hooks.items)
+    ∙ sym (ap (λ (d : DriveValue). closing_step d.state.settings) c.in_ok-drive.ensures.value)

@@ -1,0 +1,117 @@
+-- A run of a generated script may begin, and nothing but want of memory keeps it from its end.
+use Rattle.std.proofs.Common.{◌≡◌, ◌≤◌, ◌<◌, ◌+◌, ◌-◌, ◌*◌, ◌^◌, ◌++◌, ◌||◌, ℕ, zero, suc, Bool, true, false, List, [], ◌∷◌, Option, Some, None, length, refl}
+use Rattle.std.proofs.Common.{sym, ap, subst, arith, ◌∙◌, take, drop}
+use Rattle.std.specs.Prelude.{replicate}
+use Rattle.std.specs.List.{flat_map, list_any}
+use Rattle.std.proofs.lemmas.Grind.{flat_map-append}
+use Rattle.ev_types.specs.ScriptTurn.{ScriptTurn, lines_of}
+use Rattle.ev_types.specs.Trace.{Trace}
+use Rattle.ev_types.specs.declared.settings.Settings.{Settings}
+use Rattle.ev_types.specs.declared.side.SideId.{SideId}
+use Rattle.ev_types.specs.declared.status.LinkCount.{LinkCount}
+use Rattle.ev_types.specs.declared.turn_line.TurnLine.{TurnLine}
+use Rattle.ev_types.specs.declared.turn_line.TurnLine.TheVariants as line
+use Rattle.command_words.specs.declared.mode.Ending.TheVariants as ending
+use Rattle.relay_model.specs.Lines.{fails_poll}
+use Rattle.relay_model.specs.Scripted.{begun, lines_now, poll_fails}
+use Rattle.relay_laws.specs.Spelling.{BringsFit}
+use Rattle.program_end.proofs.StopLemmas.{never_stopped}
+use Rattle.big_script.specs.BigScript.{big_script_of, idle_turns, lines_from, lines_with, turns_with_each}
+use Rattle.big_script.specs.Generated.{generated, number_after}
+use Rattle.big_script.specs.BigLaws.{IsBig}
+use Rattle.big_script.proofs.BigLemmas.{big_scripts_are_big}
+use Rattle.relay_drive.specs.Seats.{seated_sides, Telling}
+use Rattle.evplay.specs.Big.{no_hooks}
+use Rattle.evplay.specs.HandedIn.{HasSeats}
+use Rattle.evplay.specs.Headline.{settings_on, IsRun}
+use Rattle.evplay.specs.Run.{answer_of, AreSmall}
+use Rattle.evplay.specs.declared.run.RunEnd.{RunEnd}
+use Rattle.evplay.specs.declared.run.RunEnd.TheVariants as run_end
+
+pub big-small : (n : ℕ) → n ≤ 64 → AreSmall (big_script_of n).turns
+big-small n few =
+    let big = big_scripts_are_big n in
+    let turns = big.turns in
+    let links = big.links in
+    let bytes = big.brought in
+    record {
+      few = omega (arith, turns);
+      links = omega (arith, links, few);
+      bytes = omega (arith, bytes, few);
+      moments = big.moments;
+    }
+
+pub big-brings : (n : ℕ) → n ≤ 64 → BringsFit (big_script_of n).turns
+big-brings n few e =
+    let each = (big_scripts_are_big n).each e in
+    let length_few = each.few in
+    record { each = each.bytes; count = omega (arith, length_few, few) }
+
+-- no hook is seated
+pub none-seated : {H : Type 0} (tells : Telling H) (n : ℕ) (hooks : List (Option H)) → hooks ≡ [] →
+    HasSeats hooks tells (big_script_of n).plans no_hooks
+none-seated tells n hooks none =
+    subst (λ z. HasSeats z tells (big_script_of n).plans no_hooks) (sym none) (record { sides = refl; told = λ tell m. tt })
+
+-- No poll fails
+
+no-poll-fails-with : (bytes : List ℕ) (link : ℕ) (rest : List TurnLine) → list_any fails_poll (lines_with bytes link ++ rest) ≡ list_any fails_poll rest
+no-poll-fails-with bytes link rest = refl
+
+from-none : (each n link x : ℕ) → list_any fails_poll (lines_from each n link x) ≡ false
+from-none each zero link x = refl
+from-none each (suc n) link x = from-none each n (link + 1) (number_after each x)
+
+opened-none : (n : ℕ) → list_any fails_poll (replicate n (line.NewLink false)) ≡ false
+opened-none zero = refl
+opened-none (suc n) = opened-none n
+
+-- in each turn of some turns no poll fails
+abbrev NonePollFails : List ScriptTurn → Type 0
+NonePollFails [] = Unit {0}
+NonePollFails (turn ∷ turns) = (list_any fails_poll turn.1 ≡ false) × NonePollFails turns
+
+idle-none : (n ms : ℕ) → NonePollFails (idle_turns n ms)
+idle-none zero ms = tt
+idle-none (suc n) ms = (refl, idle-none n (ms + 1000))
+
+big-none : (n : ℕ) → NonePollFails (big_script_of n).turns
+big-none n = (opened-none n, from-none 3000 n 0 n, idle-none 10 2000)
+
+any-append : (xs ys : List TurnLine) → list_any fails_poll xs ≡ false → list_any fails_poll ys ≡ false →
+    list_any fails_poll (xs ++ ys) ≡ false
+any-append [] ys h k = k
+any-append (x ∷ xs) ys h k = go (fails_poll x) refl h
+  where
+    go : (b : Bool) → fails_poll x ≡ b → (b || list_any fails_poll xs) ≡ false → (fails_poll x || list_any fails_poll (xs ++ ys)) ≡ false
+    go true is e = absurd (cc e)
+    go false is e = ap (λ b. b || list_any fails_poll (xs ++ ys)) is ∙ any-append xs ys e k
+
+none-in : (turns : List ScriptTurn) → NonePollFails turns → list_any fails_poll (flat_map (λ (turn : ScriptTurn). turn.1) turns) ≡ false
+none-in [] h = refl
+none-in (turn ∷ turns) h = any-append turn.1 (flat_map (λ (turn : ScriptTurn). turn.1) turns) h.0 (none-in turns h.1)
+
+none-taken : (n : ℕ) (turns : List ScriptTurn) → NonePollFails turns → NonePollFails (take n turns)
+none-taken zero turns h = tt
+none-taken (suc n) [] h = tt
+none-taken (suc n) (turn ∷ turns) h = (h.0, none-taken n turns h.1)
+
+none-dropped : (n : ℕ) (turns : List ScriptTurn) → NonePollFails turns → NonePollFails (drop n turns)
+none-dropped zero turns h = h
+none-dropped (suc n) [] h = tt
+none-dropped (suc n) (turn ∷ turns) h = none-dropped n turns h.1
+
+big-polls : (n : ℕ) (t : Trace) → poll_fails (big_script_of n).turns t ≡ false
+big-polls n t =
+    let turns = (big_script_of n).turns in
+    let many = begun turns t in
+    none-in (drop (many - 1) (take many turns)) (none-dropped (many - 1) (take many turns) (none-taken many turns (big-none n)))
+
+-- A run of it went to its end.
+pub big-went : (n : ℕ) (end : RunEnd) (t : Trace) (links : List LinkCount) →
+    IsRun (big_script_of n) ending.Drained no_hooks (answer_of end) t links → end ≡ run_end.Went
+big-went n run_end.Went t links run = refl
+big-went n run_end.PollFailed t links run = absurd (let fails = run.polls.0 in let none = big-polls n t in cc)
+big-went n (run_end.Stopped link turn) t links run =
+    let ended = run.relayed.ended in
+    absurd (never_stopped (settings_on (big_script_of n) no_hooks) t _ link refl ended.stood.reached ended.left)
