@@ -12,7 +12,7 @@ use Rattle.slab.specs.Slab.{Slab, get, Updates}
 use Rattle.min_timer.specs.Order.{moment_of, is_before, IsEarlier, IsInSlot}
 use Rattle.min_timer.specs.Queue.{with_timer}
 use Rattle.min_timer.specs.declared.timers.Timer.{Timer}
-use Rattle.min_timer.specs.declared.timers.Moment.{Moment}
+use Rattle.min_timer.specs.declared.moment.Moment.{Moment}
 
 -- no moment comes before itself
 pub not_before_itself : (m : Moment) → is_before m m ≡ true → ⊥

@@ -11,7 +11,7 @@ use Rattle.min_timer.specs.Order.{moment_of, is_before, IsEarlier, IsInSlot}
 use Rattle.min_timer.specs.Queue.{is_timer_of, without}
 use Rattle.min_timer.specs.declared.key.TimerKey.{TimerKey}
 use Rattle.min_timer.specs.declared.timers.Timer.{Timer}
-use Rattle.min_timer.specs.declared.timers.Moment.{Moment}
+use Rattle.min_timer.specs.declared.moment.Moment.{Moment}
 use Rattle.min_timer.proofs.OrderLemmas.{before_differs, first_is_earlier}
 
 -- two timers of one moment stand at one place
