@@ -5,6 +5,7 @@ ghost use Rattle.std.specs.Option.{ForSome};
 ghost use Rattle.event_base.specs.Calls.{IsAnswer, is_count, new_base, fit, new_event, set_priority, add_event, del_event, activate};
 ghost use Rattle.event_base.specs.Calls.{signal, begin_turn, next_active, next_fire, poll_timeout, ended, loop_break, loop_exit};
 ghost use Rattle.event_base.specs.Freeing.{free_event, is_pending};
+ghost use Rattle.event_base.specs.Delays.{common};
 ghost use Rattle.event_base.specs.Turns.{least, active_priority, next_event};
 ghost use Rattle.event_base.specs.Rousing.{risen, wakers, CanRise, AreApart};
 
@@ -158,7 +159,7 @@ impl Base {
             return Err(BaseFault::NoEvent);
         };
         let deadline = self.time + delay;
-        self.deadlines.set(event, deadline)?;
+        self.deadlines.set(event, deadline, delay)?;
         let order = self.deadlines.last();
         let added = kept.added_until(Timeout {
             deadline,
@@ -206,6 +207,20 @@ impl Base {
         self.deadlines.clear(event);
         self.ready.rest(event);
         self.events[event as usize] = kept.into_freed();
+        Ok(())
+    }
+
+    /// Registers a delay, in milliseconds, that many events will have. One that is registered changes nothing. TooManyDelays
+    /// comes where 256 others are registered. Takes memory; linear in the number of registered delays.
+    ///
+    /// Libevent: event2/event.h, `event_base_init_common_timeout`; "Working with events".
+    /// Differs: events need no special timeout, only this delay.
+    pub fn common(&mut self, delay: u64) -> Result<(), BaseFault>
+        ensures ok { OnOk result (common self.old delay ≡ Ok self.new) }
+        ensures refused { IfErr result (λ fault. IsAnswer fault (common self.old delay)) }
+        ensures stays { OnErr result (self.new ≡ self.old) }
+    {
+        self.deadlines.common(delay)?;
         Ok(())
     }
 

@@ -3,7 +3,7 @@
 // 2. the slot of each timer holds its deadline and its stamp;
 // 3. there are as many slots in use as timers;
 // 4. no stamp is above the last one that was given out.
-ghost use Rattle.std.specs.Prelude.{◌≡◌, ◌≢◌, ◌+◌, ◌^◌, ◌<◌, ◌≤◌, ◌↔◌, [], true, length, IfOk, IfErr, OnOk, OnErr};
+ghost use Rattle.std.specs.Prelude.{◌≡◌, ◌≢◌, ◌+◌, ◌^◌, ◌<◌, ◌≤◌, ◌↔◌, [], true, false, if◌then◌else◌, length, IfOk, IfErr, OnOk, OnErr};
 ghost use Rattle.std.specs.Option.{ok_or, option_map};
 
 use crate::fault::TimerFault;
@@ -17,9 +17,9 @@ use std::marker::Model;
 /// The most delays that are registered, as libevent has them.
 const MAX_DELAYS: usize = 256;
 
-/// A timer that waits.
+/// A timer that waits. Clauses speak of it; no call hands one out.
 #[derive(Clone, Copy)]
-struct Timer {
+pub struct Timer {
     deadline: u64,
     key: u64,
     handle: TimerKey,
@@ -83,9 +83,11 @@ impl Timers {
     /// Libevent: event2/event.h, `event_base_init_common_timeout`.
     pub fn common(&mut self, delay: u64) -> Result<(), TimerFault>
         ensures registered { OnOk result (self.new ≡ record self.old { delays = with_delay delay self.old.delays }) }
-        ensures many { (result ≡ Err TimerFault.TooManyDelays) ↔ (are_too_many delay self.old.delays ≡ true) }
-        ensures pending { result ≢ Err TimerFault.NotPending }
-        ensures spent { result ≢ Err TimerFault.Spent }
+        ensures fits { OnOk result (are_too_many delay self.old.delays ≡ false) }
+
+        // on refusal
+        ensures refused { IfErr result (λ fault. fault
+            ≡ (if are_too_many delay self.old.delays then TimerFault.TooManyDelays else TimerFault.Memory)) }
         ensures err { OnErr result (self.new ≡ self.old) }
     {
         if self.is_common(delay) {
