@@ -119,8 +119,8 @@ impl Base {
 
     /// Adds an event: it is pending from then on. With a timeout, in milliseconds and at most 2^62, it has the deadline so
     /// long after the base's time, in place of any other, and stops being active where an older timeout made it so. Without
-    /// one it keeps the deadline that it had. NoEvent comes first, then Spent. Takes memory; linear in the
-    /// number of deadlines or of active events at worst.
+    /// one it keeps the deadline that it had. NoEvent comes first, then Spent. Takes memory; logarithmic in
+    /// the number of deadlines, and linear in that of active events at worst.
     ///
     /// Libevent: event2/event.h, `event_add`; "Working with events".
     pub fn add_event(&mut self, event: u32, timeout: Option<u64>) -> Result<(), BaseFault>
@@ -172,7 +172,8 @@ impl Base {
     }
 
     /// Deletes an event: it is neither pending nor active, and no callback of it starts until it is active anew. Nothing
-    /// happens to an event that is neither. Takes no memory; linear in the number of deadlines or of active events at worst.
+    /// happens to an event that is neither. Takes no memory; logarithmic in the number of deadlines, and
+    /// linear in that of active events at worst.
     ///
     /// Libevent: event2/event.h, `event_del`; "Working with events".
     /// Differs: the rest of a signal's calls are gone, also where a callback deletes its own event.
@@ -191,8 +192,8 @@ impl Base {
     }
 
     /// Frees an event: it is deleted, and from then on each call with its number answers NoEvent. The number is not given
-    /// again, and its record stays with the base. Takes no memory; linear in the number of deadlines or of active events at
-    /// worst.
+    /// again, and its record stays with the base. Takes no memory; logarithmic in the number of deadlines, and
+    /// linear in that of active events at worst.
     ///
     /// Libevent: event2/event.h, `event_free`; "Working with events".
     /// Differs: an event is named by its number, so that a call on a freed one is refused.
@@ -325,8 +326,8 @@ impl Base {
     /// Starts the next callback of the batch: answers the event and the flags of its call. None comes where the batch has no
     /// call left, or the loop broke. A non-persistent event stops being pending; the timeout of a persistent one is set
     /// again, from the scheduled moment where it fired and else from now, and never before now. Spent comes where the new
-    /// deadline or its order number would not fit. Takes memory; linear in the number of deadlines where a timeout is set again,
-    /// else constant.
+    /// deadline or its order number would not fit. Takes memory; logarithmic in the number of deadlines where a timeout is set
+    /// again, else constant.
     ///
     /// Libevent: event2/event.h, `event_base_loop`; "Working with events".
     /// Differs: what becomes active while callbacks run waits for a later turn.
