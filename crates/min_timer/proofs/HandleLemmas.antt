@@ -1,11 +1,11 @@
 -- No timer has a number above the last, so the next handle is new; and a handle that is gone is handed out by no later call.
-use Rattle.std.proofs.Common.{◌≡◌, ◌∙◌, sym, ap, refl, ℕ, ◌+◌, ◌≤◌, ◌<◌, Bool, true, false, not, if◌then◌else◌, List, [], ◌∷◌, arith}
-use Rattle.std.proofs.Common.{Option, Some, None, All}
+use Rattle.std.proofs.Common.{◌≡◌, ◌∙◌, sym, ap, refl, ℕ, ◌+◌, ◌≤◌, Bool, true, false, not, if◌then◌else◌, List, [], ◌∷◌, arith}
+use Rattle.std.proofs.Common.{Some, None, All}
 use Rattle.std.specs.Prelude.{nat_le}
 use Rattle.std.specs.List.{find}
 use Rattle.std.proofs.lemmas.Bool.{cond_both, false_from_ne_true}
 use Rattle.std.proofs.lemmas.List.Elements.{All-weaker, All-filter, All-head, All-tail, All-nil, All-cons}
-use Rattle.min_timer.specs.Queue.{TimerQueue, number_of, is_timer_of, timer_of, after_due}
+use Rattle.min_timer.specs.Queue.{TimerQueue, number_of, is_timer_of, after_due}
 use Rattle.min_timer.specs.Handles.{TimerCall, next_handle, after, after_all, reached, HandlesAreNew, HandlesStayGone}
 use Rattle.min_timer.specs.declared.key.TimerKey.{TimerKey}
 use Rattle.min_timer.specs.declared.timers.Timer.{Timer}

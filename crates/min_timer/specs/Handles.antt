@@ -1,6 +1,6 @@
 -- What becomes of handles over any calls: the number that is handed out next was never handed out before, and a handle
 -- whose timer is gone stays without one.
-use Rattle.std.specs.Prelude.{◌≡◌, ℕ, ◌+◌, ◌≤◌, List, [], ◌∷◌, Option, None}
+use Rattle.std.specs.Prelude.{◌≡◌, ℕ, ◌+◌, ◌≤◌, List, [], ◌∷◌, None}
 use Rattle.min_timer.specs.Queue.{TimerQueue, number_of, timer_of, without, with_timer, after_due, with_delay}
 use Rattle.min_timer.specs.declared.key.TimerKey.{TimerKey}
 

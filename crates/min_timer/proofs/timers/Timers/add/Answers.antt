@@ -1,6 +1,6 @@
-use Rattle.std.proofs.Common.{◌≡◌, ◌∙◌, ◌+◌, ◌<◌, ◌≤◌, sym, ap, subst, arith}
+use Rattle.std.proofs.Common.{◌≡◌, ◌∙◌, ◌<◌, ◌≤◌, sym, ap, subst, arith}
 use Rattle.std.proofs.lemmas.List.Elements.{All-weaker}
-use Rattle.min_timer.specs.Order.{IsKept, timer_at, timers_at}
+use Rattle.min_timer.specs.Order.{IsKept, timers_at}
 use Rattle.min_timer.specs.Queue.{with_timer}
 use Rattle.min_timer.specs.declared.timers.Timer.{Timer}
 use Rattle.min_timer.proofs.KeptLemmas.{kept-with_timer}

@@ -1,8 +1,7 @@
-use Rattle.std.proofs.Common.{◌≡◌, ◌∙◌, sym, ap, subst, true, List, Option, Some, None}
+use Rattle.std.proofs.Common.{◌≡◌, ◌∙◌, sym, ap, subst, Some}
 use Rattle.slab.specs.Slab.{get}
 use Rattle.min_timer.specs.Order.{IsKept, IsInSlot, timers_at}
 use Rattle.min_timer.specs.Queue.{is_timer_of, timer_of, without}
-use Rattle.min_timer.specs.declared.timers.Timer.{Timer}
 use Rattle.min_timer.proofs.KeptLemmas.{kept-without}
 use Rattle.min_timer.proofs.HandleLemmas.{All-from_none}
 use Rattle.min_timer.proofs.PlaceLemmas.{kept_all, slot_of_handle, stamp_of_handle}

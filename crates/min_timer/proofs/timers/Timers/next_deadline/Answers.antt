@@ -1,4 +1,4 @@
-use Rattle.std.proofs.Common.{◌≡◌, ◌∙◌, ap}
+use Rattle.std.proofs.Common.{◌∙◌, ap}
 use Rattle.min_timer.specs.Queue.{first_deadline}
 use Rattle.min_timer.proofs.TreeLemmas.{first-deadline}
 use Rattle.min_timer.proofs.timers.Timers.next_deadline.Goals as goal

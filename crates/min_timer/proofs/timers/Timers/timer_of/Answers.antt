@@ -1,6 +1,6 @@
-use Rattle.std.proofs.Common.{◌≡◌, ◌∙◌, sym, ap, cond, true, false, Some, None}
+use Rattle.std.proofs.Common.{◌∙◌, sym, ap, cond, Some, None}
 use Rattle.min_timer.specs.Order.{timer_at, timers_at}
-use Rattle.min_timer.specs.Queue.{timer_of, is_timer_of}
+use Rattle.min_timer.specs.Queue.{is_timer_of}
 use Rattle.min_timer.proofs.PlaceLemmas.{not_held, find-none}
 use Rattle.min_timer.proofs.TreeLemmas.{timer_of-lookup, seated}
 use Rattle.min_timer.proofs.timers.Timers.timer_of.Goals as goal
