@@ -63,14 +63,16 @@ none_behind : (handle : TimerKey) (e : Moment × Seat) (slots : Slab Moment) (es
     → All (λ x. is_timer_of handle x ≡ false) (timers_at es)
 none_behind handle e slots es pairs all slot = λ i d h.
     let x = get_or (timers_at es) i d in
-    false_from_ne_true (is_timer_of handle x) (λ is. before_differs e.0 (moment_of x) (first_is_earlier (timer_at e) (timers_at es) pairs i d h)
+    false_from_ne_true (is_timer_of handle x) (λ is. before_differs e.0 (moment_of x)
+    (first_is_earlier (timer_at e) (timers_at es) pairs i d h)
     (sym (of_moment handle e.0 slots x (All-tail (IsInSlot slots) (timer_at e) (timers_at es) all i d h) slot is)))
 
 -- the timer of an entry of another moment is not of the handle
 other_moment : (handle : TimerKey) (m : Moment) (slots : Slab Moment) (e : Moment × Seat) → IsInSlot slots (timer_at e)
     → get slots handle.slot ≡ Some m → is_at (moment_cmp m) e.0 ≡ false → is_timer_of handle (timer_at e) ≡ false
 other_moment handle m slots e held slot other =
-    false_from_ne_true (is_timer_of handle (timer_at e)) (λ is. not_at_moment m e.0 other (of_moment handle m slots (timer_at e) held slot is))
+    false_from_ne_true (is_timer_of handle (timer_at e)) (λ is. not_at_moment m e.0 other
+    (of_moment handle m slots (timer_at e) held slot is))
 
 -- the timer at the moment, if it is of the handle
 abbrev pub seated : TimerKey → Moment → Option Seat → Option Timer
@@ -143,7 +145,8 @@ found-has {X} P p (x ∷ xs) y all is = go (found-has P p xs y (All-tail P x xs 
     go rest false here h = rest h
 
 -- what is found stands at a place
-pub found-at : {X : Type 0} (p : X → Bool) (xs : List X) (y d : X) → find p xs ≡ Some y → (i : ℕ) × (i < length xs) × (p (get_or xs i d) ≡ true)
+pub found-at : {X : Type 0} (p : X → Bool) (xs : List X) (y d : X) → find p xs ≡ Some y
+    → (i : ℕ) × (i < length xs) × (p (get_or xs i d) ≡ true)
 found-at p [] y d is = absurd (cc)
 found-at {X} p (x ∷ xs) y d is = go (found-at p xs y d) (p x) refl is
   where
@@ -153,6 +156,7 @@ found-at {X} p (x ∷ xs) y d is = go (found-at p xs y d) (p x) refl is
     go rest false here h = let later = rest h in (suc later.0, omega (arith, later.1), later.2)
 
 -- the first deadline is that of the first entry
-pub first-deadline : (es : List (Moment × Seat)) (e : Moment × Seat) → slice_get es 0 ≡ Some e → Some e.0.deadline ≡ first_deadline (timers_at es)
+pub first-deadline : (es : List (Moment × Seat)) (e : Moment × Seat) → slice_get es 0 ≡ Some e
+    → Some e.0.deadline ≡ first_deadline (timers_at es)
 first-deadline [] e is = absurd (cc)
 first-deadline (x ∷ xs) e is = ap (λ y. Some y.0.deadline) (let same : x ≡ e = cc in sym same)

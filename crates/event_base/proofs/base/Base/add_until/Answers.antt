@@ -39,10 +39,14 @@ kept_by events deadlines ready k last e t kept is = split (is_active (added (Som
     split : (b : Bool) → is_active (added (Some t) e) ≡ b → AreKept (set events k (added (Some t) e))
         (record deadlines { moments = set deadlines.moments k (Some (record { deadline = t.deadline; order = t.order })); last = last })
         (record ready { places = cond b ready.places (set ready.places k None) })
-    split true h = AreKept-last _ (record deadlines { moments = set deadlines.moments k (Some (record { deadline = t.deadline; order = t.order })) })
+    split true h = AreKept-last _ (record deadlines {
+      moments = set deadlines.moments k (Some (record { deadline = t.deadline; order = t.order }));
+    })
         last _ (AreKept-moment events deadlines ready k e (added (Some t) e) _ kept is refl
         (ap (option_map (λ (a : Activation). record { priority = e.priority; order = a.order })) (stays e.active h)) low)
-    split false h = AreKept-last _ (record deadlines { moments = set deadlines.moments k (Some (record { deadline = t.deadline; order = t.order })) })
+    split false h = AreKept-last _ (record deadlines {
+      moments = set deadlines.moments k (Some (record { deadline = t.deadline; order = t.order }));
+    })
         last _ (AreKept-set events deadlines ready k e (added (Some t) e) _ None kept is refl
         (ap (option_map (λ (a : Activation). record { priority = e.priority; order = a.order }))
         (gone (not_by_timeout e.active) h)) low)

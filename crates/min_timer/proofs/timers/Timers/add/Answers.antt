@@ -36,6 +36,6 @@ returns-clause-added c = rw (← c.self.view_is) (placed c)
 pub invariant_of-self-2 : goal.invariant_of-self-2
 invariant_of-self-2 c =
     subst (λ o. IsKept o c.insert_reserved-slot.new.self c.in_ok-stamp.stamp) (sym (placed c))
-    (kept-with_timer (timers_at c.self.inside.order.entries) c.self.inside.slots c.reserve.new.self c.insert_reserved-slot.new.self c.self.inside.last
-    (new_timer c) c.self.invariant c.in_ok-reserve.ensures.rest_kept (grind arith) c.insert_reserved-slot.ensures.was_vacant
-    c.insert_reserved-slot.ensures.updates c.insert_reserved-slot.ensures.len)
+    (kept-with_timer (timers_at c.self.inside.order.entries) c.self.inside.slots c.reserve.new.self c.insert_reserved-slot.new.self
+    c.self.inside.last (new_timer c) c.self.invariant c.in_ok-reserve.ensures.rest_kept (grind arith)
+    c.insert_reserved-slot.ensures.was_vacant c.insert_reserved-slot.ensures.updates c.insert_reserved-slot.ensures.len)

@@ -21,7 +21,8 @@ found c = ap (λ v. timer_of c.args.timer v.pending) c.self.view_is ∙ sym c.in
 left : (c : goal.After-try_remove) → timers_at c.remove.new.self.entries ≡ without c.args.timer (timers_at c.self.inside.order.entries)
 left c =
     let timers = timers_at c.self.inside.order.entries in
-    let has = found-has (IsInSlot c.self.inside.slots) (is_timer_of c.args.timer) timers c.in-Some.found c.self.invariant.in_slots (found c) in
+    let has = found-has (IsInSlot c.self.inside.slots) (is_timer_of c.args.timer) timers c.in-Some.found
+    c.self.invariant.in_slots (found c) in
     let slot = slot_of_handle c.args.timer c.in-Some.found has.1 in
     let stamp = stamp_of_handle c.args.timer c.in-Some.found has.1 in
     ap timers_at c.remove.ensures.entries
