@@ -132,7 +132,8 @@ impl Deadlines {
 
 /// Adds a timer whose deadline is the end of a delay, where it is not below it.
 fn add(timers: &mut Timers, deadline: u64, delay: u64, key: u64) -> Result<TimerKey, TimerFault>
-    ensures added { IfOk result (λ handle. timers.new.pending ≡ with_timer (record { deadline = deadline; key = key; handle = handle }) timers.old.pending) }
+    ensures added { IfOk result (λ handle. timers.new.pending
+        ≡ with_timer (record { deadline = deadline; key = key; handle = handle }) timers.old.pending) }
     ensures numbered { IfOk result (λ handle. number_of handle ≡ timers.old.last + 1) }
     ensures counted { OnOk result (timers.new.last ≡ timers.old.last + 1) }
     ensures spent { (result ≡ Err TimerFault.Spent) ↔ (2 ^ 64 ≤ timers.old.last + 1) }

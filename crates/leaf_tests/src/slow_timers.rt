@@ -1,5 +1,7 @@
 // Timers beside a plain list of those that wait, which is searched from end to end, over generated calls.
 
+ghost use Rattle.std.specs.Prelude.{◌≤◌};
+
 use min_timer::{TimerFault, TimerKey, Timers};
 use std::alloc::Global;
 

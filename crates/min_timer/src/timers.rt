@@ -146,7 +146,8 @@ impl Timers {
     pub fn add_after(&mut self, now: u64, delay: u64, key: u64) -> Result<TimerKey, TimerFault>
         requires { now + delay < 2 ^ 64 }
         // on success
-        ensures added { IfOk result (λ handle. self.new.pending ≡ with_timer (record { deadline = now + delay; key = key; handle = handle }) self.old.pending) }
+        ensures added { IfOk result (λ handle. self.new.pending
+            ≡ with_timer (record { deadline = now + delay; key = key; handle = handle }) self.old.pending) }
         ensures numbered { IfOk result (λ handle. number_of handle ≡ self.old.last + 1) }
         ensures counted { OnOk result (self.new.last ≡ self.old.last + 1) }
 
