@@ -1,6 +1,6 @@
 #!/usr/bin/env bash
 # How fast filters pass bytes beside a plain copy, what an idle bufferevent holds, what due callbacks of 10,000 owners cost, and
-# what an idle link costs a turn over a script that brings nothing, where nobody listens.
+# what an idle link costs a turn over a script that brings nothing, where nobody listens, and what 100,000 timers cost.
 # Build first: cd crates/layer_bench && rt run. Usage: bench/layers.sh [PROGRAM]
 set -u
 cd "$(dirname "$0")/.." || exit 1
@@ -27,3 +27,7 @@ awk -v s="$seconds" 'BEGIN { printf "due callbacks, 10,000 owners: %.0f ns a rea
 # 65,536 turns over 1,024 links
 read -r seconds _ < <(measured links)
 awk -v s="$seconds" 'BEGIN { printf "an idle link: %.1f ns a turn\n", s * 1e9 / (65536 * 1024) }'
+
+# 64 rounds in which 100,000 timers are added at random deadlines, a third is cancelled and the others fire
+read -r seconds _ < <(measured timers)
+awk -v s="$seconds" 'BEGIN { printf "100,000 timers: %.0f ms\n", s * 1e3 / 64 }'

@@ -155,6 +155,7 @@ kept-falls b (Err base.Memory) next closed falls is = let same : b ≡ next = cc
 kept-falls b (Err base.BadPriority) next closed falls is = let same : b ≡ next = cc in rw (← same) (Falls-refl b closed)
 kept-falls b (Err base.NoEvent) next closed falls is = let same : b ≡ next = cc in rw (← same) (Falls-refl b closed)
 kept-falls b (Err base.IsActive) next closed falls is = let same : b ≡ next = cc in rw (← same) (Falls-refl b closed)
+kept-falls b (Err base.TooManyDelays) next closed falls is = let same : b ≡ next = cc in rw (← same) (Falls-refl b closed)
 
 -- where some step goes on to another, both were taken
 both_steps : {X Y : Type 0} (o : Option X) (on : X → Option Y) (y : Y) → option_and_then on o ≡ Some y →

@@ -66,6 +66,8 @@ Went-answered (Err base.NoEvent) result r b text step ok refused stays written =
     rw (is_refusal base.NoEvent step refused (λ e. cc)) (Went-refused base.NoEvent result r b text stays written)
 Went-answered (Err base.IsActive) result r b text step ok refused stays written =
     rw (is_refusal base.IsActive step refused (λ e. cc)) (Went-refused base.IsActive result r b text stays written)
+Went-answered (Err base.TooManyDelays) result r b text step ok refused stays written =
+    rw (is_refusal base.TooManyDelays step refused (λ e. cc)) (Went-refused base.TooManyDelays result r b text stays written)
 
 -- the same of a call that tells its refusal exactly
 pub exactly : (outcome : Result (Unit {0}) BaseFault) (step : Step) → IfErr outcome (λ why. step ≡ Err why) →

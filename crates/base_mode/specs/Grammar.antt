@@ -28,7 +28,8 @@ keyword_of word =
     else (if bytes_eq word (codes "signal") then Some key.Signal
     else (if bytes_eq word (codes "on") then Some key.On
     else (if bytes_eq word (codes "turn") then Some key.Turn
-    else None))))))))
+    else (if bytes_eq word (codes "common") then Some key.Common
+    else None)))))))))
 
 -- the number that a word spells, at least the one and at most the other
 abbrev pub ranged : ℕ → ℕ → List ℕ → Option ℕ
@@ -76,6 +77,7 @@ said_by key.Signal (signal ∷ count ∷ []) =
 said_by key.On (event ∷ nth ∷ words) =
     option_and_then (λ e. option_and_then (λ k. option_map (λ a. line.Put (command.On e k a)) (act_of words)) (number_within (2 ^ 62) nth)) (event_of event)
 said_by key.Turn (ms ∷ []) = option_map (λ n. line.Put (command.Turn n)) (number_within (2 ^ 40) ms)
+said_by key.Common (ms ∷ []) = option_map (λ n. line.Put (command.Common n)) (ranged 1 (2 ^ 40) ms)
 said_by _ _ = None
 
 -- what a line says, by all its words

@@ -2,7 +2,7 @@
 use Rattle.std.specs.Prelude.{ℕ, List, [], ◌∷◌, ◌++◌, ◌==◌, Bool, true, not, if◌then◌else◌, Option, Some, None, is_some}
 use Rattle.std.specs.List.{list_any, filter_map}
 use Rattle.base_mode.specs.declared.command.Command.{Command}
-use Rattle.base_mode.specs.declared.command.Command.TheVariants.{New, Priority, Add, Delete, Activate, Signal, On, Turn}
+use Rattle.base_mode.specs.declared.command.Command.TheVariants.{New, Priority, Add, Delete, Activate, Signal, On, Turn, Common}
 use Rattle.base_mode.specs.declared.line.Line.{Line}
 use Rattle.base_mode.specs.declared.line.Line.TheVariants.{Skipped, Base, Put}
 use Rattle.base_mode.specs.Script.{ScriptSoFar}
@@ -29,6 +29,7 @@ may_follow before (Activate event) = is_made event before
 may_follow before (Signal signal count) = true
 may_follow before (On event nth act) = is_made event before
 may_follow before (Turn ms) = true
+may_follow before (Common ms) = true
 
 -- The script with a line more, where that line may stand there. The number of priorities is said once, before all other
 -- lines.

@@ -49,6 +49,7 @@ name_of fault.BadPriority = codes "BadPriority"
 name_of fault.NoEvent = codes "NoEvent"
 name_of fault.IsActive = codes "IsActive"
 name_of fault.Spent = codes "Spent"
+name_of fault.TooManyDelays = codes "TooManyDelays"
 
 abbrev pub ok_text : List ℕ
 ok_text = line_of (codes "ok" ∷ [])

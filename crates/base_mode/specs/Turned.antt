@@ -8,8 +8,9 @@ use Rattle.event_base.specs.Base.{BaseValue}
 use Rattle.event_base.specs.declared.event.Event.{Event}
 use Rattle.event_base.specs.Turns.{time_at, in_batch}
 use Rattle.event_base.specs.Calls as call
+use Rattle.event_base.specs.Delays.{common}
 use Rattle.base_mode.specs.declared.command.Command.{Command}
-use Rattle.base_mode.specs.declared.command.Command.TheVariants.{New, Priority, Add, Delete, Activate, Signal, On, Turn}
+use Rattle.base_mode.specs.declared.command.Command.TheVariants.{New, Priority, Add, Delete, Activate, Signal, On, Turn, Common}
 use Rattle.base_mode.specs.Order.{made}
 use Rattle.base_mode.specs.Script.{ScriptValue}
 use Rattle.base_mode.specs.Spelled.{script_of}
@@ -80,6 +81,7 @@ obeyed r (Activate event) = answered r (call.activate r.base (number_of event (m
 obeyed r (Signal number count) = answered r (call.signal r.base number count)
 obeyed r (On event nth what) = Ok r
 obeyed r (Turn ms) = turned r ms
+obeyed r (Common ms) = answered r (common r.base ms)
 
 -- an event that is made has not fired yet
 abbrev pub new_fires : Command → List ℕ

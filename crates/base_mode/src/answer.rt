@@ -16,6 +16,7 @@ fn name_text(fault: BaseFault) -> &'static str
         BaseFault::NoEvent => "NoEvent",
         BaseFault::IsActive => "IsActive",
         BaseFault::Spent => "Spent",
+        BaseFault::TooManyDelays => "TooManyDelays",
     }
 }
 

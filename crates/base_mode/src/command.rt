@@ -86,6 +86,8 @@ pub enum Command {
     On(u32, u64, Reaction),
     /// A turn at this moment, in milliseconds.
     Turn(u64),
+    /// A delay that many events will have.
+    Common(u64),
 }
 
 impl Command {
@@ -103,6 +105,7 @@ impl Command {
             Command::Signal(number, count) => Command::Signal(*number, *count),
             Command::On(event, nth, act) => Command::On(*event, *nth, act.again()),
             Command::Turn(ms) => Command::Turn(*ms),
+            Command::Common(ms) => Command::Common(*ms),
         }
     }
 }

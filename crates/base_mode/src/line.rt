@@ -37,6 +37,7 @@ pub enum Keyword {
     Signal,
     On,
     Turn,
+    Common,
 }
 
 /// What a line says.
@@ -78,6 +79,8 @@ fn read_keyword(word: &[u8]) -> Option<Keyword>
         Some(Keyword::On)
     } else if is_word(word, "turn") {
         Some(Keyword::Turn)
+    } else if is_word(word, "common") {
+        Some(Keyword::Common)
     } else {
         None
     }
@@ -95,6 +98,14 @@ fn read_delay(word: &[u8]) -> Option<Delay>
     ensures { result ≡ delay_of word.now }
 {
     Some(Delay::new(number(word, MAX_MS)?))
+}
+
+/// A delay that is registered: at least 1 ms.
+fn read_common(word: &[u8]) -> Option<u64>
+    ensures { result ≡ ranged 1 (2 ^ 40) word.now }
+{
+    let ms = number(word, MAX_MS)?;
+    if ms < 1 { None } else { Some(ms) }
 }
 
 fn read_persist(word: &[u8]) -> Option<bool>
@@ -191,6 +202,7 @@ fn line_by(keyword: Keyword, more: &[&[u8]]) -> Option<Line>
         Keyword::Signal => signal_line(more),
         Keyword::On => on_line(more),
         Keyword::Turn => turn_line(more),
+        Keyword::Common => common_line(more),
     }
 }
 
@@ -309,4 +321,13 @@ fn turn_line(more: &[&[u8]]) -> Option<Line>
         return None;
     };
     Some(Line::Put(Command::Turn(number(ms, MAX_MS)?)))
+}
+
+fn common_line(more: &[&[u8]]) -> Option<Line>
+    ensures { result ≡ said_by Keyword.Common (map (λ w. w.now) more.now) }
+{
+    let [ms] = more else {
+        return None;
+    };
+    Some(Line::Put(Command::Common(read_common(ms)?)))
 }

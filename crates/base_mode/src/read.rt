@@ -136,6 +136,7 @@ impl Reading {
             Command::Signal(_, _) => true,
             Command::On(event, _, _) => self.is_made(*event),
             Command::Turn(_) => true,
+            Command::Common(_) => true,
         }
     }
 

@@ -2,6 +2,7 @@
 ghost use Rattle.std.specs.Prelude.{◌≡◌, ◌++◌, ◌+◌, ◌∷◌, [], ◌<◌, ◌≤◌, ◌^◌, length, OnOk, OnErr, IfOk, IfErr, Ok};
 ghost use Rattle.std.specs.Option.{ForSome};
 ghost use Rattle.event_base.specs.Calls as call;
+ghost use Rattle.event_base.specs.Delays.{common};
 ghost use Rattle.base_mode.specs.Order.{made};
 ghost use Rattle.base_mode.specs.Run.{number_of, answered, called_back, next_fired};
 ghost use Rattle.base_mode.specs.Turned.{IsClosed, whole_batch, begun, turn_ended, turned, obeyed, new_fires, recorded, run, all_run};
@@ -104,6 +105,7 @@ impl Run {
             Command::Signal(number, count) => self.signal(alloc, *number, *count),
             Command::On(_, _, _) => Ok(()),
             Command::Turn(ms) => self.turn(alloc, *ms),
+            Command::Common(ms) => self.common(alloc, *ms),
         }
     }
 
@@ -158,6 +160,13 @@ impl Run {
         ensures { Went result self.new (answered self.old (call.signal self.old.base number count)) }
     {
         let outcome = self.base.signal(number, count);
+        put_answer(alloc, &mut self.text, outcome)
+    }
+
+    fn common(&mut self, alloc: Global, delay: u64) -> Result<(), Halt>
+        ensures { Went result self.new (answered self.old (common self.old.base delay)) }
+    {
+        let outcome = self.base.common(delay);
         put_answer(alloc, &mut self.text, outcome)
     }
 

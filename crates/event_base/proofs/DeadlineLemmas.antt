@@ -373,8 +373,8 @@ IsTimed-replace pending waiting last t w timed is lt number =
     rw (without_with w.timer t pending new rise, ← set-set waiting t.key None (Some (kept t))) placed
 
 -- the value of deadlines is told by its parts
-abbrev pub value_of : List (Option Moment) → ℕ → DeadlinesValue
-value_of moments last = record { moments = moments; last = last }
+abbrev pub value_of : List (Option Moment) → ℕ → List ℕ → DeadlinesValue
+value_of moments last delays = record { moments = moments; last = last; delays = delays }
 
-pub value_of-same : (a b : List (Option Moment)) (m n : ℕ) → a ≡ b → m ≡ n → value_of a m ≡ value_of b n
-value_of-same a b m n e f = ap (λ xs. value_of xs m) e ∙ ap (value_of b) f
+pub value_of-same : (a b : List (Option Moment)) (m n : ℕ) (c d : List ℕ) → a ≡ b → m ≡ n → c ≡ d → value_of a m c ≡ value_of b n d
+value_of-same a b m n c d e f g = ap (λ xs. value_of xs m c) e ∙ ap (λ k. value_of b k c) f ∙ ap (value_of b n) g

@@ -10,13 +10,14 @@ use Rattle.event_base.specs.declared.event.Event.{Event}
 use Rattle.event_base.specs.declared.event.Activation.{Activation}
 use Rattle.event_base.specs.declared.event.Timeout.{Timeout}
 use Rattle.event_base.specs.declared.fault.BaseFault.{BaseFault}
-use Rattle.event_base.specs.declared.fault.BaseFault.TheVariants.{NoEvent, BadPriority, IsActive, Spent}
+use Rattle.event_base.specs.declared.fault.BaseFault.TheVariants.{NoEvent, BadPriority, IsActive, Spent, TooManyDelays}
 use Rattle.event_base.specs.Base.{BaseValue}
 use Rattle.event_base.specs.Events.{made, is_active, activated, added, deleted, freed_event, unless_freed, called, set_again}
 use Rattle.event_base.specs.Turns.{time_at, wakes, timed_out}
 use Rattle.event_base.specs.Fires.{hears, is_woken_by, signalled, overflows, is_past_numbers}
 use Rattle.event_base.specs.Calls.{Step, fit, with_event, add_event, call, next_call, next_fire, next_active, loop_break, loop_exit}
 use Rattle.event_base.specs.Freeing.{is_pending}
+use Rattle.min_timer.specs.Queue.{with_delay, are_too_many}
 use Rattle.event_base.specs.BaseLaws.{HasNoCallback, IsUnknown, DeletedIsQuiet, FreedIsGone, IsSetAgain, PersistentIsSetAgain}
 use Rattle.event_base.specs.CallsInARow.{BaseCall, done, LeadsTo, rouses}
 use Rattle.event_base.proofs.TiedLemmas.{slice_get-set_same, slice_get-set_other, slice_get-within, slice_get-push}
@@ -232,6 +233,10 @@ rests-done gone k BaseCall.LoopBreak b next may is r =
     (let same = Ok-same (loop_break b) next is in subst (λ (y : BaseValue). RestsAt gone k y.events) same r)
 rests-done gone k BaseCall.LoopExit b next may is r =
     (let same = Ok-same (loop_exit b) next is in subst (λ (y : BaseValue). RestsAt gone k y.events) same r)
+rests-done gone k (BaseCall.Common delay) b next may is r =
+    (let same = if-not-Ok (are_too_many delay b.delays) (Ok (record b { delays = with_delay delay b.delays })) next TooManyDelays is in
+    let one = Ok-same (record b { delays = with_delay delay b.delays }) next same in
+    subst (λ (y : BaseValue). RestsAt gone k y.events) one r)
 
 -- none of the calls rouses it, or it was freed
 pub rests-led : (gone : Bool) (k : ℕ) (calls : List BaseCall) (b last : BaseValue) → (list_any (rouses k) calls ≡ false) ⊎ (gone ≡ true)

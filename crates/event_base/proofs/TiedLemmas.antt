@@ -178,9 +178,9 @@ AreKept-place events deadlines ready k e new p kept is moment place low = record
 }
 
 -- what holds beside the events does not depend on the last order number of adding
-pub AreKept-last : (events : List Event) (moments : List (Option Moment)) (before last : ℕ) (ready : ReadyValue) → AreKept events
-    (record { moments = moments; last = before }) ready → AreKept events (record { moments = moments; last = last }) ready
-AreKept-last events moments before last ready kept = record {
+pub AreKept-last : (events : List Event) (deadlines : DeadlinesValue) (last : ℕ) (ready : ReadyValue) → AreKept events deadlines ready
+    → AreKept events (record deadlines { last = last }) ready
+AreKept-last events deadlines last ready kept = record {
   placed = kept.placed;
   timed = kept.timed;
   places = kept.places;

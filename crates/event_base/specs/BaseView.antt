@@ -10,6 +10,7 @@ base_of b = record {
   time = b.time;
   events = b.events.items;
   last_adding = b.deadlines.last;
+  delays = b.deadlines.delays;
   next_activation = b.ready.next;
   batch_priority = b.batch_priority;
   batch_end = b.batch_end;

@@ -31,6 +31,7 @@ new_base priorities = record {
   time = 0;
   events = [];
   last_adding = 0;
+  delays = [];
   next_activation = 0;
   batch_priority = 0;
   batch_end = 0;
@@ -98,8 +99,7 @@ signal b number count =
 abbrev pub ended : BaseValue → Bool
 ended b = b.broken || (b.exiting && not (is_some (next_event b)))
 
--- A turn begins: due events become active, and the batch is what is active of the most urgent priority. The batch of
--- a loop that is over is empty.
+-- A turn begins: due events become active, and the batch is what is active of the most urgent priority: none, once the loop is over.
 abbrev pub begin_turn : BaseValue → ℕ → Step
 begin_turn b now =
     let time = time_at b.time now in

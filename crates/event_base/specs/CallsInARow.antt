@@ -4,6 +4,7 @@ use Rattle.event_base.specs.Base.{BaseValue}
 use Rattle.event_base.specs.Calls.{Step, new_event, set_priority, add_event, del_event, activate, signal, begin_turn, next_active}
 use Rattle.event_base.specs.Calls.{loop_break, loop_exit}
 use Rattle.event_base.specs.Freeing.{free_event}
+use Rattle.event_base.specs.Delays.{common}
 
 -- a call that changes a base
 pub data BaseCall : Type 0 where
@@ -18,6 +19,7 @@ pub data BaseCall : Type 0 where
   NextActive : BaseCall
   LoopBreak : BaseCall
   LoopExit : BaseCall
+  Common : ℕ → BaseCall  -- a delay
 
 -- what a call makes of a base
 abbrev pub done : BaseCall → BaseValue → Step
@@ -32,6 +34,7 @@ done (BaseCall.BeginTurn now) b = begin_turn b now
 done BaseCall.NextActive b = next_active b
 done BaseCall.LoopBreak b = Ok (loop_break b)
 done BaseCall.LoopExit b = Ok (loop_exit b)
+done (BaseCall.Common delay) b = common b delay
 
 -- The calls lead from one base to another. A call that is refused changes nothing, and is left out.
 abbrev pub LeadsTo : BaseValue → List BaseCall → BaseValue → Type 0

@@ -8,10 +8,12 @@ pub record Moment : Type 0 where
   pub deadline : ℕ
   pub order : ℕ
 
--- the deadline of each event that has one, by the number of the event, and the last order number of adding, or 0
+-- the deadline of each event that has one, by the number of the event, and the last order number of adding, or 0, and
+-- the delays that were registered
 pub record DeadlinesValue : Type 0 where
   pub moments : List (Option Moment)
   pub last : ℕ
+  pub delays : List ℕ
 
 -- a moment comes before another: its deadline is less, or it is the same and was added before
 abbrev pub IsSooner : Moment → Moment → Type 0

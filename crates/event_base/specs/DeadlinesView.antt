@@ -28,7 +28,7 @@ pub record IsTimed (pending : List Timer) (waiting : List (Option Waiting)) (las
   pub apart : (j k : ℕ) (v w : Waiting) → j ≢ k → at waiting j ≡ Some v → at waiting k ≡ Some w → number_of v.timer ≢ number_of w.timer
 
 abbrev pub deadlines_of : Inside → DeadlinesValue
-deadlines_of d = record { moments = moments d.waiting.items; last = d.timers.last }
+deadlines_of d = record { moments = moments d.waiting.items; last = d.timers.last; delays = d.timers.delays }
 
 abbrev pub AreDeadlines : Inside → Type 0
 AreDeadlines d = IsTimed d.timers.pending d.waiting.items d.timers.last

@@ -10,6 +10,7 @@ pub mod Fires
 pub mod Faults
 pub mod Calls
 pub mod Freeing
+pub mod Delays
 pub mod CallsInARow
 pub mod BaseLaws
 pub mod Tied

@@ -5,6 +5,7 @@ ghost use Rattle.std.specs.Option.{ForSome};
 ghost use Rattle.event_base.specs.Calls.{IsAnswer, is_count, new_base, fit, new_event, set_priority, add_event, del_event, activate};
 ghost use Rattle.event_base.specs.Calls.{signal, begin_turn, next_active, next_fire, poll_timeout, ended, loop_break, loop_exit};
 ghost use Rattle.event_base.specs.Freeing.{free_event, is_pending};
+ghost use Rattle.event_base.specs.Delays.{common};
 ghost use Rattle.event_base.specs.Turns.{least, active_priority, next_event};
 ghost use Rattle.event_base.specs.Rousing.{risen, wakers, CanRise, AreApart};
 
@@ -118,8 +119,8 @@ impl Base {
 
     /// Adds an event: it is pending from then on. With a timeout, in milliseconds and at most 2^62, it has the deadline so
     /// long after the base's time, in place of any other, and stops being active where an older timeout made it so. Without
-    /// one it keeps the deadline that it had. NoEvent comes first, then Spent. Takes memory; linear in the
-    /// number of deadlines or of active events at worst.
+    /// one it keeps the deadline that it had. NoEvent comes first, then Spent. Takes memory; logarithmic in
+    /// the number of deadlines, and linear in that of active events at worst.
     ///
     /// Libevent: event2/event.h, `event_add`; "Working with events".
     pub fn add_event(&mut self, event: u32, timeout: Option<u64>) -> Result<(), BaseFault>
@@ -158,7 +159,7 @@ impl Base {
             return Err(BaseFault::NoEvent);
         };
         let deadline = self.time + delay;
-        self.deadlines.set(event, deadline)?;
+        self.deadlines.set(event, deadline, delay)?;
         let order = self.deadlines.last();
         let added = kept.added_until(Timeout {
             deadline,
@@ -171,7 +172,8 @@ impl Base {
     }
 
     /// Deletes an event: it is neither pending nor active, and no callback of it starts until it is active anew. Nothing
-    /// happens to an event that is neither. Takes no memory; linear in the number of deadlines or of active events at worst.
+    /// happens to an event that is neither. Takes no memory; logarithmic in the number of deadlines, and
+    /// linear in that of active events at worst.
     ///
     /// Libevent: event2/event.h, `event_del`; "Working with events".
     /// Differs: the rest of a signal's calls are gone, also where a callback deletes its own event.
@@ -190,8 +192,8 @@ impl Base {
     }
 
     /// Frees an event: it is deleted, and from then on each call with its number answers NoEvent. The number is not given
-    /// again, and its record stays with the base. Takes no memory; linear in the number of deadlines or of active events at
-    /// worst.
+    /// again, and its record stays with the base. Takes no memory; logarithmic in the number of deadlines, and
+    /// linear in that of active events at worst.
     ///
     /// Libevent: event2/event.h, `event_free`; "Working with events".
     /// Differs: an event is named by its number, so that a call on a freed one is refused.
@@ -206,6 +208,20 @@ impl Base {
         self.deadlines.clear(event);
         self.ready.rest(event);
         self.events[event as usize] = kept.into_freed();
+        Ok(())
+    }
+
+    /// Registers a delay, in milliseconds, that many events will have. One that is registered changes nothing. TooManyDelays
+    /// comes where 256 others are registered. Takes memory; linear in the number of registered delays.
+    ///
+    /// Libevent: event2/event.h, `event_base_init_common_timeout`; "Working with events".
+    /// Differs: events need no special timeout, only this delay.
+    pub fn common(&mut self, delay: u64) -> Result<(), BaseFault>
+        ensures ok { OnOk result (common self.old delay ≡ Ok self.new) }
+        ensures refused { IfErr result (λ fault. IsAnswer fault (common self.old delay)) }
+        ensures stays { OnErr result (self.new ≡ self.old) }
+    {
+        self.deadlines.common(delay)?;
         Ok(())
     }
 
@@ -310,8 +326,8 @@ impl Base {
     /// Starts the next callback of the batch: answers the event and the flags of its call. None comes where the batch has no
     /// call left, or the loop broke. A non-persistent event stops being pending; the timeout of a persistent one is set
     /// again, from the scheduled moment where it fired and else from now, and never before now. Spent comes where the new
-    /// deadline or its order number would not fit. Takes memory; linear in the number of deadlines where a timeout is set again,
-    /// else constant.
+    /// deadline or its order number would not fit. Takes memory; logarithmic in the number of deadlines where a timeout is set
+    /// again, else constant.
     ///
     /// Libevent: event2/event.h, `event_base_loop`; "Working with events".
     /// Differs: what becomes active while callbacks run waits for a later turn.

@@ -1,6 +1,7 @@
 // The deadlines of events: a timer for each event that has one. What a deadline means stands elsewhere.
 ghost use Rattle.std.specs.Prelude.{◌≡◌, ◌≤◌, ◌<◌, ◌+◌, ◌^◌, ℕ, [], Ok, Err, Some, None, length, slice_set, IfOk, IfErr, OnOk, OnErr};
-ghost use Rattle.std.specs.Prelude.{if◌then◌else◌, nat_lt};
+ghost use Rattle.std.specs.Prelude.{if◌then◌else◌, nat_lt, false, ◌≢◌, ◌↔◌};
+ghost use Rattle.min_timer.specs.Queue.{number_of, with_timer, with_delay, are_too_many};
 ghost use Rattle.event_base.specs.Rising.{at};
 ghost use Rattle.event_base.specs.Ready.{IsLeast};
 ghost use Rattle.event_base.specs.Deadlines.{IsDueOrder, deadlines};
@@ -40,7 +41,7 @@ impl Model for Deadlines {
 impl Deadlines {
     /// No event has a deadline. Takes no memory.
     pub fn new(alloc: Global) -> Deadlines
-        ensures { result ≡ record { moments = []; last = 0 } }
+        ensures { result ≡ record { moments = []; last = 0; delays = [] } }
     {
         Deadlines {
             timers: Timers::new(alloc),
@@ -61,6 +62,7 @@ impl Deadlines {
         ensures room { OnOk result (count ≤ length self.new.moments) }
         ensures stays { length self.old.moments ≤ length self.new.moments }
         ensures last { self.new.last ≡ self.old.last }
+        ensures delays { self.new.delays ≡ self.old.delays }
     {
         while self.waiting.len() < count {
             self.waiting.push(None)?;
@@ -68,10 +70,22 @@ impl Deadlines {
         Ok(())
     }
 
-    /// Gives an event a deadline, in place of any other. Spent comes where no order number is left. Takes memory.
-    pub fn set(&mut self, event: u32, deadline: u64) -> Result<(), TimerFault>
+    /// Registers a delay that many events will have. TooManyDelays comes where 256 others are registered. Takes memory.
+    pub fn common(&mut self, delay: u64) -> Result<(), TimerFault>
+        ensures ok { OnOk result (self.new ≡ record self.old { delays = with_delay delay self.old.delays }) }
+        ensures fits { OnOk result (are_too_many delay self.old.delays ≡ false) }
+        ensures refused { IfErr result (λ fault. fault
+            ≡ (if are_too_many delay self.old.delays then TimerFault.TooManyDelays else TimerFault.Memory)) }
+        ensures stays { OnErr result (self.new ≡ self.old) }
+    {
+        self.timers.common(delay)
+    }
+
+    /// Gives an event a deadline, in place of any other: the end of a delay, where it is not below it. Spent comes where no
+    /// order number is left. Takes memory.
+    pub fn set(&mut self, event: u32, deadline: u64, delay: u64) -> Result<(), TimerFault>
         requires { event < length self.old.moments }
-        ensures ok { OnOk result (self.new ≡ record {
+        ensures ok { OnOk result (self.new ≡ record self.old {
           moments = slice_set self.old.moments event (Some (record { deadline = deadline; order = self.old.last + 1 }));
           last = self.old.last + 1;
         }) }
@@ -80,7 +94,7 @@ impl Deadlines {
         ensures fits { OnOk result (self.old.last + 1 < 2 ^ 64) }
         ensures stays { OnErr result (self.new ≡ self.old) }
     {
-        let timer = self.timers.add(deadline, u64::from(event))?;
+        let timer = add(&mut self.timers, deadline, delay, u64::from(event))?;
         let old = waiting_of(&self.waiting, event);
         self.waiting[event as usize] = Some(Waiting { deadline, timer });
         if let Some(old) = old {
@@ -114,6 +128,22 @@ impl Deadlines {
     {
         self.timers.due(alloc, time)
     }
+}
+
+/// Adds a timer whose deadline is the end of a delay, where it is not below it.
+fn add(timers: &mut Timers, deadline: u64, delay: u64, key: u64) -> Result<TimerKey, TimerFault>
+    ensures added { IfOk result (λ handle. timers.new.pending
+        ≡ with_timer (record { deadline = deadline; key = key; handle = handle }) timers.old.pending) }
+    ensures numbered { IfOk result (λ handle. number_of handle ≡ timers.old.last + 1) }
+    ensures counted { OnOk result (timers.new.last ≡ timers.old.last + 1) }
+    ensures spent { (result ≡ Err TimerFault.Spent) ↔ (2 ^ 64 ≤ timers.old.last + 1) }
+    ensures pending { result ≢ Err TimerFault.NotPending }
+    ensures many { result ≢ Err TimerFault.TooManyDelays }
+    ensures err { OnErr result (timers.new ≡ timers.old) }
+    ensures delays { timers.new.delays ≡ timers.old.delays }
+{
+    let begin = deadline.saturating_sub(delay);
+    timers.add_after(begin, deadline - begin, key)
 }
 
 /// What is kept of the timer of an event.

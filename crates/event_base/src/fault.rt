@@ -26,6 +26,9 @@ pub enum BaseFault {
     /// A number would not fit its type.
     #[error("a number is spent")]
     Spent,
+    /// 256 other delays are registered.
+    #[error("too many delays")]
+    TooManyDelays,
 }
 
 impl From<AllocError> for BaseFault {
@@ -67,6 +70,7 @@ impl From<TimerFault> for BaseFault {
             TimerFault::Memory => BaseFault::Memory,
             TimerFault::NotPending => BaseFault::NoEvent,
             TimerFault::Spent => BaseFault::Spent,
+            TimerFault::TooManyDelays => BaseFault::TooManyDelays,
         }
     }
 }

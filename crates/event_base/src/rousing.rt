@@ -99,6 +99,7 @@ pub fn set_again(
     requires early { time ≤ 2 ^ 62 }
     ensures timeout { IfOk result (λ timeout. timeout ≡ option_map (set_again time (deadlines.old.last + 1) flags) (again kept.now)) }
     ensures moments { IfOk result (λ timeout. deadlines.new.moments ≡ slice_set deadlines.old.moments event (option_map moment_at timeout)) }
+    ensures delays { deadlines.new.delays ≡ deadlines.old.delays }
     ensures last { OnOk result (deadlines.new.last ≡ deadlines.old.last + (if is_set_again kept.now then 1 else 0)) }
     ensures fits { OnOk result (is_past_numbers time (deadlines.old.last + 1) flags kept.now ≡ false) }
     ensures refused { IfErr result (λ fault. fault
@@ -112,7 +113,7 @@ pub fn set_again(
     let Some(deadline) = timeout.next_deadline(time, flags) else {
         return Err(BaseFault::Spent);
     };
-    deadlines.set(event, deadline)?;
+    deadlines.set(event, deadline, timeout.delay)?;
     Ok(Some(Timeout {
         deadline,
         delay: timeout.delay,

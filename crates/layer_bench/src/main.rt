@@ -6,6 +6,7 @@ mod due;
 mod idle;
 mod links;
 mod passing;
+mod timers;
 
 use due::rounds_of_due;
 use idle::idle_bevs;
@@ -15,6 +16,7 @@ use script_text::filter_named;
 use std::alloc::Global;
 use std::env;
 use std::io::Print;
+use timers::rounds_of_timers;
 
 /// How many pieces are passed, owners are due and bufferevents are made without a word, and with one.
 const LITTLE: u32 = 16;
@@ -24,6 +26,9 @@ const MUCH: u32 = 65_536;
 /// Over how many links turns are made in which nothing comes.
 const IDLE_LINKS: u32 = 1_024;
 
+/// How many timers are added in a round.
+const TIMERS: u64 = 100_000;
+
 fn main(rt: HostRuntime) -> anyhow::Result<()> {
     let alloc = rt.alloc();
     let words = env::args(&rt)?.skip(1).collect::<Vec<String>>(alloc)?;
@@ -32,6 +37,7 @@ fn main(rt: HostRuntime) -> anyhow::Result<()> {
         None => {
             for word in [
                 "copy", "none", "to-crlf", "to-lf", "hex-out", "hex-in", "due", "idle", "links",
+                "timers",
             ] {
                 one(&rt, alloc, word, LITTLE)?;
             }
@@ -47,6 +53,7 @@ fn one(rt: &impl Print, alloc: Global, word: &str, amount: u32) -> anyhow::Resul
         "due" => rounds_of_due(alloc, 10_000, amount / 16)?,
         "idle" => idle_bevs(alloc, amount)?,
         "links" => idle_turns(alloc, IDLE_LINKS, amount)?,
+        "timers" => rounds_of_timers(alloc, TIMERS, (amount / 1_024).max(1))?,
         _ => match filter_named(word.as_bytes()) {
             Some(kind) => passed(alloc, kind, amount)?,
             None => 0,

@@ -12,6 +12,8 @@ mod queues;
 #[cfg(test)]
 mod sets;
 #[cfg(test)]
+mod slow_timers;
+#[cfg(test)]
 mod timers;
 #[cfg(test)]
 mod values;

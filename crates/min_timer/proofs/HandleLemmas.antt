@@ -1,11 +1,11 @@
 -- No timer has a number above the last, so the next handle is new; and a handle that is gone is handed out by no later call.
-use Rattle.std.proofs.Common.{◌≡◌, ◌∙◌, sym, ap, refl, ℕ, ◌+◌, ◌≤◌, ◌<◌, Bool, true, false, not, if◌then◌else◌, List, [], ◌∷◌, arith}
-use Rattle.std.proofs.Common.{Option, Some, None, All}
+use Rattle.std.proofs.Common.{◌≡◌, ◌∙◌, sym, ap, refl, ℕ, ◌+◌, ◌≤◌, Bool, true, false, not, if◌then◌else◌, List, [], ◌∷◌, arith}
+use Rattle.std.proofs.Common.{Some, None, All}
 use Rattle.std.specs.Prelude.{nat_le}
 use Rattle.std.specs.List.{find}
 use Rattle.std.proofs.lemmas.Bool.{cond_both, false_from_ne_true}
 use Rattle.std.proofs.lemmas.List.Elements.{All-weaker, All-filter, All-head, All-tail, All-nil, All-cons}
-use Rattle.min_timer.specs.Queue.{TimerQueue, number_of, is_timer_of, timer_of, after_due}
+use Rattle.min_timer.specs.Queue.{TimerQueue, number_of, is_timer_of, after_due}
 use Rattle.min_timer.specs.Handles.{TimerCall, next_handle, after, after_all, reached, HandlesAreNew, HandlesStayGone}
 use Rattle.min_timer.specs.declared.key.TimerKey.{TimerKey}
 use Rattle.min_timer.specs.declared.timers.Timer.{Timer}
@@ -19,7 +19,7 @@ find-none p (x ∷ xs) none =
     ap (λ b. if b then Some x else find p xs) (All-head (λ y. p y ≡ false) x xs none) ∙ find-none p xs
     (All-tail (λ y. p y ≡ false) x xs none)
 
-All-from_none : {X : Type 0} (p : X → Bool) (xs : List X) → find p xs ≡ None → All (λ x. p x ≡ false) xs
+pub All-from_none : {X : Type 0} (p : X → Bool) (xs : List X) → find p xs ≡ None → All (λ x. p x ≡ false) xs
 All-from_none p [] e = All-nil (λ x. p x ≡ false)
 All-from_none {X} p (x ∷ xs) e = go (All-from_none p xs) (p x) refl
   where
@@ -51,6 +51,7 @@ numbered-after (TimerCall.Added deadline key slot) q all =
     (All-weaker (λ t. t.handle.stamp ≤ q.last) (λ t. t.handle.stamp ≤ q.last + 1) (λ t h. omega arith) q.pending all)
 numbered-after (TimerCall.Cancelled handle) q all = All-filter (λ t. not (is_timer_of handle t)) (λ t. t.handle.stamp ≤ q.last)
     q.pending all
+numbered-after (TimerCall.Registered delay) q all = all
 numbered-after (TimerCall.TookDue now) q all = All-after_due (λ t. t.handle.stamp ≤ q.last) now q.pending all
 
 numbered-after_all : (changes : List TimerCall) (q : TimerQueue) → Numbered q → Numbered (after_all changes q)
@@ -72,6 +73,7 @@ gone-after handle (TimerCall.Added deadline key slot) q gone =
     }
 gone-after handle (TimerCall.Cancelled other) q gone =
     record { old = gone.old; none = All-filter (λ t. not (is_timer_of other t)) (λ t. is_timer_of handle t ≡ false) q.pending gone.none }
+gone-after handle (TimerCall.Registered delay) q gone = record { old = gone.old; none = gone.none }
 gone-after handle (TimerCall.TookDue now) q gone =
     record { old = gone.old; none = All-after_due (λ t. is_timer_of handle t ≡ false) now q.pending gone.none }
 
@@ -81,7 +83,7 @@ gone-after_all handle (change ∷ rest) q gone = gone-after_all handle rest (aft
 
 pub handles-are_new : HandlesAreNew
 handles-are_new changes slot =
-    let all : Numbered (reached changes) = numbered-after_all changes (record { pending = []; last = 0 })
+    let all : Numbered (reached changes) = numbered-after_all changes (record { pending = []; last = 0; delays = [] })
     (All-nil (λ t. t.handle.stamp ≤ 0)) in
     find-none (is_timer_of (next_handle (reached changes) slot)) (reached changes).pending
     (All-weaker (λ t. t.handle.stamp ≤ (reached changes).last) (λ t. is_timer_of (next_handle (reached changes) slot) t ≡ false)

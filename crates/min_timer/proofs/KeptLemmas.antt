@@ -9,7 +9,7 @@ use Rattle.min_timer.specs.Order.{moment_of, IsEarlier, IsInSlot, IsKept}
 use Rattle.min_timer.specs.Queue.{is_timer_of, without, with_timer}
 use Rattle.min_timer.specs.declared.key.TimerKey.{TimerKey}
 use Rattle.min_timer.specs.declared.timers.Timer.{Timer}
-use Rattle.min_timer.specs.declared.timers.Moment.{Moment}
+use Rattle.min_timer.specs.declared.moment.Moment.{Moment}
 use Rattle.min_timer.proofs.OrderLemmas.{All-with_timer, in_order-with_timer, length-with_timer, in_slots-with_timer, rest_in_order}
 use Rattle.min_timer.proofs.PlaceLemmas.{same_slot_same_moment, slot_of_handle, stamp_of_handle, in_slots-rest, length-without}
 

@@ -1,10 +1,8 @@
 -- Timers in order: what comes before what, and what a timer that is put in its place leaves.
-use Rattle.std.proofs.Common.{◌≡◌, ◌∙◌, sym, ap, refl, ℕ, zero, suc, ◌+◌, ◌<◌, ◌≤◌, Bool, true, false, nat_lt, nat_le, List, [], ◌∷◌}
-use Rattle.std.proofs.Common.{length, get_or, arith, Some, None, All, subst, insert, inl, inr}
+use Rattle.std.proofs.Common.{◌≡◌, ◌∙◌, ap, refl, suc, ◌+◌, ◌<◌, ◌≤◌, true, nat_lt, List, [], ◌∷◌}
+use Rattle.std.proofs.Common.{length, arith, Some, None, All, subst}
 use Rattle.std.specs.List.{AllPairs}
-use Rattle.std.specs.List.Sorted.{IsPartitionedBy, IsPartitionPoint}
-use Rattle.std.proofs.Math.Nat.{eq-or-lt_of_le}
-use Rattle.std.proofs.lemmas.Bool.{cond_both, leb-false, leb-true, lt-ltb, le-ltb, ltb-true, ltb-false}
+use Rattle.std.proofs.lemmas.Bool.{cond_both, ltb-true, ltb-false}
 use Rattle.std.proofs.lemmas.Bool.Decides.{nat_tests}
 use Rattle.std.proofs.lemmas.List.Elements.{All-nil, All-cons, All-head, All-tail, All-weaker}
 use Rattle.std.proofs.lemmas.List.Kept.{AllPairs-cons}
@@ -12,7 +10,7 @@ use Rattle.slab.specs.Slab.{Slab, get, Updates}
 use Rattle.min_timer.specs.Order.{moment_of, is_before, IsEarlier, IsInSlot}
 use Rattle.min_timer.specs.Queue.{with_timer}
 use Rattle.min_timer.specs.declared.timers.Timer.{Timer}
-use Rattle.min_timer.specs.declared.timers.Moment.{Moment}
+use Rattle.min_timer.specs.declared.moment.Moment.{Moment}
 
 -- no moment comes before itself
 pub not_before_itself : (m : Moment) → is_before m m ≡ true → ⊥
@@ -21,10 +19,6 @@ not_before_itself m h = grind (arith, nat_tests)
 -- a moment that comes before another is not that one
 pub before_differs : (a b : Moment) → is_before a b ≡ true → a ≡ b → ⊥
 before_differs a b h e = not_before_itself b (subst (λ m. is_before m b ≡ true) e h)
-
--- an earlier moment has no later deadline
-pub deadline_rises : (a b : Moment) → is_before a b ≡ true → a.deadline ≤ b.deadline
-deadline_rises a b h = grind (arith, nat_tests)
 
 -- what comes before comes before what follows
 pub before_before : (a b c : Moment) → is_before a b ≡ true → is_before b c ≡ true → is_before a c ≡ true
@@ -45,16 +39,6 @@ first_is_earlier x xs pairs = λ k d h. pairs 0 (suc k) d (omega arith) (omega a
 -- the later ones are in order
 pub rest_in_order : (x : Timer) (xs : List Timer) → AllPairs IsEarlier (x ∷ xs) → AllPairs IsEarlier xs
 rest_in_order x xs pairs = λ i j d l h. pairs (suc i) (suc j) d (omega arith) (omega arith)
-
--- a test that an earlier timer passes where a later one does parts timers in order
-pub parted : (p : Timer → Bool) → ((a b : Timer) → IsEarlier a b → p b ≡ true → p a ≡ true) → (xs : List Timer) → AllPairs
-    IsEarlier xs → IsPartitionedBy p xs
-parted p falls xs pairs = λ i j d le within pass.
-    elim (eq-or-lt_of_le le) [
-      | inl e ↦ subst (λ k. p (get_or xs k d) ≡ true) (sym e) pass
-      | inr l ↦ falls (get_or xs i d)
-          (get_or xs j d) (pairs i j d l within) pass
-    ]
 
 -- what holds of the timer and of the others holds of all
 pub All-with_timer : (P : Timer → Type 0) (t : Timer) (xs : List Timer) → P t → All P xs → All P (with_timer t xs)
@@ -89,24 +73,6 @@ length-with_timer t [] = refl
 length-with_timer t (x ∷ xs) =
     cond_both (nat_lt t.deadline x.deadline) (t ∷ x ∷ xs) (x ∷ with_timer t xs) (λ ys. length ys ≡ length (x ∷ xs) + 1)
     (λ _. omega arith) (λ _. omega (arith, length-with_timer t xs))
-
--- the timer's place parts those that come due no later from the others
-pub insert-with_timer : (t : Timer) (xs : List Timer) (i : ℕ) → i ≤ length xs
-    → IsPartitionPoint (λ x. nat_le x.deadline t.deadline ≡ true) (λ x. nat_le x.deadline t.deadline ≡ false) xs i
-    → insert xs i t ≡ with_timer t xs
-insert-with_timer t [] zero within parts = refl
-insert-with_timer t [] (suc i) within parts = absurd (omega arith)
-insert-with_timer t (x ∷ xs) zero within parts =
-    let later : nat_lt t.deadline x.deadline ≡ true = lt-ltb t.deadline x.deadline (leb-false x.deadline t.deadline
-    (parts.1 0 x (omega arith) (omega arith))) in
-    rw later refl
-insert-with_timer t (x ∷ xs) (suc i) within parts =
-    let no_later : nat_lt t.deadline x.deadline ≡ false = le-ltb t.deadline x.deadline (leb-true x.deadline t.deadline
-    (parts.0 0 x (omega arith) (omega arith))) in
-    rw no_later
-    (ap (λ ys. x ∷ ys)
-    (insert-with_timer t xs i (omega arith)
-    ((λ k d low high. parts.0 (suc k) d (omega arith) (omega arith)), (λ k d low high. parts.1 (suc k) d (omega arith) (omega arith)))))
 
 -- a timer in a fresh slot leaves the others in theirs
 pub in_slots-with_timer : (slots new : Slab Moment) (t : Timer) (xs : List Timer) → get slots t.handle.slot ≡ None

@@ -1,17 +1,16 @@
 -- Timers by their handles: each handle has one place, and what a timer that is taken out leaves.
-use Rattle.std.proofs.Common.{◌≡◌, ◌≢◌, ◌∙◌, sym, ap, refl, ℕ, zero, suc, ◌+◌, ◌<◌, ◌≤◌, Bool, true, false, not, List, [], ◌∷◌, length}
-use Rattle.std.proofs.Common.{get_or, arith, Some, None, All, subst, remove, filter, inl, inr}
+use Rattle.std.proofs.Common.{◌≡◌, ◌≢◌, ◌∙◌, sym, ap, refl, ℕ, zero, suc, ◌+◌, ◌<◌, Bool, true, false, not, List, [], ◌∷◌, length}
+use Rattle.std.proofs.Common.{get_or, arith, Some, None, All, remove, filter, inl, inr}
 use Rattle.std.specs.List.{AllPairs, find}
-use Rattle.std.specs.List.Sorted.{IsPartitionPoint}
 use Rattle.std.proofs.lemmas.Bool.{false_from_ne_true, cases_order, and_parts, eqb-true}
 use Rattle.std.proofs.lemmas.List.Elements.{All-head, All-tail, All-from_get_or}
 use Rattle.std.proofs.lemmas.List.Edits.{length-remove}
 use Rattle.slab.specs.Slab.{Slab, get, Updates}
-use Rattle.min_timer.specs.Order.{moment_of, is_before, IsEarlier, IsInSlot}
+use Rattle.min_timer.specs.Order.{moment_of, IsEarlier, IsInSlot}
 use Rattle.min_timer.specs.Queue.{is_timer_of, without}
 use Rattle.min_timer.specs.declared.key.TimerKey.{TimerKey}
 use Rattle.min_timer.specs.declared.timers.Timer.{Timer}
-use Rattle.min_timer.specs.declared.timers.Moment.{Moment}
+use Rattle.min_timer.specs.declared.moment.Moment.{Moment}
 use Rattle.min_timer.proofs.OrderLemmas.{before_differs, first_is_earlier}
 
 -- two timers of one moment stand at one place
@@ -48,19 +47,6 @@ one_place handle slots xs i k d pairs all wi wk hi differ =
     (same_slot_same_moment slots (get_or xs k d) (get_or xs i d) (all k d wk) (all i d wi)
     (slot_of_handle handle (get_or xs k d) hk ∙ sym (slot_of_handle handle (get_or xs i d) hi)))))
 
--- the place that parts the earlier moments from the others is that of the timer of the moment
-pub place_of_moment : (m : Moment) (xs : List Timer) (at k : ℕ) (d : Timer) → AllPairs IsEarlier xs → at ≤ length xs → k < length xs
-    → IsPartitionPoint (λ x. is_before (moment_of x) m ≡ true) (λ x. is_before (moment_of x) m ≡ false) xs at
-    → moment_of (get_or xs k d) ≡ m → at ≡ k
-place_of_moment m xs at k d pairs wa wk parts e =
-    elim (cases_order at k) [
-      | inl same ↦ same
-      | inr (inl l) ↦ absurd (let yes : is_before (moment_of (get_or xs at d)) m ≡ true = subst
-          (λ n. is_before (moment_of (get_or xs at d)) n ≡ true) e (pairs at k d l wk) in let no = parts.1 at d (omega arith)
-          (omega arith) in cc)
-      | inr (inr l) ↦ absurd (before_differs _ _ (parts.0 k d (omega arith) l) e)
-    ]
-
 -- where no element passes the test, all are kept
 pub kept_all : {X : Type 0} (p : X → Bool) (xs : List X) → All (λ x. p x ≡ false) xs → filter (λ x. not (p x)) xs ≡ xs
 kept_all p [] none = refl
@@ -91,35 +77,10 @@ pub length-without : (handle : TimerKey) (slots : Slab Moment) (xs : List Timer)
 length-without handle slots xs i d pairs all within here =
     rw (← without-remove handle slots xs i d pairs all within here) (length-remove xs i within)
 
--- the one element that passes the test is found
-pub find-one : {X : Type 0} (p : X → Bool) (xs : List X) (i : ℕ) (d : X) → i < length xs → p (get_or xs i d) ≡ true
-    → ((k : ℕ) → k < length xs → k ≢ i → p (get_or xs k d) ≡ false) → find p xs ≡ Some (get_or xs i d)
-find-one p [] i d within here others = absurd (omega arith)
-find-one p (x ∷ xs) zero d within here others = rw here refl
-find-one p (x ∷ xs) (suc i) d within here others =
-    let first : p x ≡ false = others 0 (omega arith) (omega arith) in
-    rw first (find-one p xs i d (omega arith) here (λ k h n. others (suc k) (omega arith) (λ e. n (omega arith))))
-
 -- where no element passes the test, none is found
 pub find-none : {X : Type 0} (p : X → Bool) (xs : List X) → All (λ x. p x ≡ false) xs → find p xs ≡ None
 find-none p [] none = refl
 find-none p (x ∷ xs) none = rw (All-head (λ y. p y ≡ false) x xs none) (find-none p xs (All-tail (λ y. p y ≡ false) x xs none))
-
--- where the timer at the place that the moment of a slot has is of another handle, no timer is of this one
-pub not_here : (handle : TimerKey) (m : Moment) (slots : Slab Moment) (xs : List Timer) (at : ℕ) → AllPairs IsEarlier xs → All
-    (IsInSlot slots) xs
-    → get slots handle.slot ≡ Some m → at ≤ length xs
-    → IsPartitionPoint (λ x. is_before (moment_of x) m ≡ true) (λ x. is_before (moment_of x) m ≡ false) xs at
-    → ((d : Timer) → at < length xs → is_timer_of handle (get_or xs at d) ≡ false) → All (λ x. is_timer_of handle x ≡ false) xs
-not_here handle m slots xs at pairs all held within parts here = λ k d h.
-    false_from_ne_true (is_timer_of handle (get_or xs k d)) (λ hk.
-    let same : Some (moment_of (get_or xs k d)) ≡ Some m = sym (all k d h) ∙ ap (get slots)
-    (slot_of_handle handle (get_or xs k d) hk) ∙ held in
-    let moment : moment_of (get_or xs k d) ≡ m = cc in
-    let place : at ≡ k = place_of_moment m xs at k d pairs within h parts moment in
-    let other : is_timer_of handle (get_or xs k d) ≡ false = subst (λ i. is_timer_of handle (get_or xs i d) ≡ false) place
-    (here d (omega arith)) in
-    cc)
 
 -- in a slot that no timer holds there is no timer of its handles
 pub not_held : (handle : TimerKey) (slots : Slab Moment) (xs : List Timer) → All (IsInSlot slots) xs → get slots handle.slot ≡ None

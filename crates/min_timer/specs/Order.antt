@@ -1,9 +1,18 @@
 -- What the timers keep: their order, their slots, their numbers.
-use Rattle.std.specs.Prelude.{◌≡◌, ℕ, ◌≤◌, ◌==◌, ◌&&◌, ◌||◌, Bool, true, nat_lt, List, length, Some, All}
+use Rattle.std.specs.Prelude.{◌≡◌, ℕ, ◌≤◌, ◌==◌, ◌&&◌, ◌||◌, Bool, true, nat_lt, List, length, map, Some, All}
 use Rattle.std.specs.List.{AllPairs}
 use Rattle.slab.specs.Slab.{Slab, get, slab_len}
 use Rattle.min_timer.specs.declared.timers.Timer.{Timer}
-use Rattle.min_timer.specs.declared.timers.Moment.{Moment}
+use Rattle.min_timer.specs.declared.moment.Moment.{Moment}
+use Rattle.min_timer.specs.declared.moment.Seat.{Seat}
+
+-- the timer of an entry: its moment, and beside it its key and its slot
+abbrev pub timer_at : Moment × Seat → Timer
+timer_at e = record { deadline = e.0.deadline; key = e.1.key; handle = record { slot = e.1.slot; stamp = e.0.stamp } }
+
+-- the timers of the entries, in their order
+abbrev pub timers_at : List (Moment × Seat) → List Timer
+timers_at es = map timer_at es
 
 -- when a timer comes due among the others: its deadline, and its stamp
 abbrev pub moment_of : Timer → Moment

@@ -1,14 +1,16 @@
 -- What a contract sees of the timers: a list of those that wait, in the order in which they come due.
-use Rattle.std.specs.Prelude.{ℕ, ◌==◌, ◌&&◌, Bool, not, nat_lt, nat_le, if◌then◌else◌, List, [], ◌∷◌, filter, Option, Some, None}
-use Rattle.std.specs.List.{find}
+use Rattle.std.specs.Prelude.{ℕ, ◌==◌, ◌&&◌, Bool, not, nat_lt, nat_le, if◌then◌else◌, List, [], ◌∷◌, ◌++◌, length, filter}
+use Rattle.std.specs.Prelude.{Option, Some, None}
+use Rattle.std.specs.List.{find, list_any}
 use Rattle.min_timer.specs.declared.key.TimerKey.{TimerKey}
 use Rattle.min_timer.specs.declared.timers.Timer.{Timer}
 
--- the timers that wait, by deadline and among equal deadlines by number, and the number of the last one that was
--- added, or 0
+-- the timers that wait, by deadline and among equal deadlines by number, the number of the last one that was
+-- added, or 0, and the delays that were registered, in the order of registering
 pub record TimerQueue : Type 0 where
   pub pending : List Timer
   pub last : ℕ
+  pub delays : List ℕ
 
 -- the order number of the timer of a handle: 1 for the first that was added, then 2, and so on
 abbrev pub number_of : TimerKey → ℕ
@@ -51,3 +53,15 @@ after_due now (first ∷ rest) = if nat_le first.deadline now then rest else fir
 abbrev pub due_keys : ℕ → List Timer → List ℕ
 due_keys now [] = []
 due_keys now (first ∷ rest) = if nat_le first.deadline now then first.key ∷ due_keys now rest else []
+
+-- the delay is registered
+abbrev pub has_delay : ℕ → List ℕ → Bool
+has_delay delay delays = list_any (λ other. other == delay) delays
+
+-- a delay that is not registered comes behind the others
+abbrev pub with_delay : ℕ → List ℕ → List ℕ
+with_delay delay delays = if has_delay delay delays then delays else delays ++ delay ∷ []
+
+-- 256 other delays are registered
+abbrev pub are_too_many : ℕ → List ℕ → Bool
+are_too_many delay delays = not (has_delay delay delays) && nat_le 256 (length delays)

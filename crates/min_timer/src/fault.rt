@@ -16,6 +16,9 @@ pub enum TimerFault {
     /// 2^64 - 1 timers were added, and there is no number for another.
     #[error("no number is left for a timer")]
     Spent,
+    /// 256 other delays are registered.
+    #[error("too many delays")]
+    TooManyDelays,
 }
 
 impl From<AllocError> for TimerFault {

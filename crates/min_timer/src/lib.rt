@@ -4,6 +4,7 @@
 mod fault;
 mod key;
 mod laws;
+mod moment;
 mod timers;
 
 pub use fault::TimerFault;

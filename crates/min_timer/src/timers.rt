@@ -1,52 +1,28 @@
-// The timers in the order in which they come due. The invariants:
+// The timers that wait, in a tree by their moments. The invariants:
 // 1. the timers rise by deadline, and among equal deadlines by stamp;
 // 2. the slot of each timer holds its deadline and its stamp;
 // 3. there are as many slots in use as timers;
 // 4. no stamp is above the last one that was given out.
-ghost use Rattle.std.specs.Prelude.{◌≡◌, ◌≢◌, ◌+◌, ◌^◌, ◌<◌, ◌≤◌, ◌↔◌, [], true, false, length, All, MatchOption, IfOk, IfErr, OnOk, OnErr};
+ghost use Rattle.std.specs.Prelude.{◌≡◌, ◌≢◌, ◌+◌, ◌^◌, ◌<◌, ◌≤◌, ◌↔◌, [], true, false, if◌then◌else◌, length, IfOk, IfErr, OnOk, OnErr};
 ghost use Rattle.std.specs.Option.{ok_or, option_map};
-ghost use Rattle.std.specs.List.{HoldsAt};
-ghost use Rattle.min_timer.specs.Order.{moment_of, is_before};
 
 use crate::fault::TimerFault;
 use crate::key::TimerKey;
+use crate::moment::{Moment, Seat};
 use slab::Slab;
 use std::alloc::Global;
-use std::collections::VecDeque;
+use std::collections::BTreeMap;
 use std::marker::Model;
 
-/// A timer that waits.
+/// The most delays that are registered, as libevent has them.
+const MAX_DELAYS: usize = 256;
+
+/// A timer that waits. Clauses speak of it; no call hands one out.
 #[derive(Clone, Copy)]
-struct Timer {
+pub struct Timer {
     deadline: u64,
     key: u64,
     handle: TimerKey,
-}
-
-impl Timer {
-    fn moment(&self) -> Moment
-        ensures { result ≡ moment_of self.now }
-    {
-        Moment {
-            deadline: self.deadline,
-            stamp: self.handle.stamp,
-        }
-    }
-}
-
-/// When a timer comes due among the others.
-#[derive(Clone, Copy)]
-struct Moment {
-    deadline: u64,
-    stamp: u64,
-}
-
-// Whether the first moment comes before the second.
-fn is_earlier(first: Moment, second: Moment) -> bool
-    ensures { result ≡ is_before first second }
-{
-    first.deadline < second.deadline
-        || (first.deadline == second.deadline && first.stamp < second.stamp)
 }
 
 /// Timers that wait, in the order in which they come due: by deadline, in milliseconds, and among
@@ -56,8 +32,9 @@ fn is_earlier(first: Moment, second: Moment) -> bool
 /// Differs: equal deadlines keep the order of adding.
 #[derive(Drop)]
 pub struct Timers {
-    order: VecDeque<Timer>,
+    order: BTreeMap<Moment, Seat>,
     slots: Slab<Moment>,
+    delays: Vec<u64>,
     last: u64,
 }
 
@@ -66,25 +43,27 @@ impl Model for Timers {
 
     ghost Value = { TimerQueue };
 
-    ghost use Rattle.min_timer.specs.Order.{IsKept};
+    ghost use Rattle.min_timer.specs.Order.{timers_at, IsKept};
 
-    ghost view = { λ t. record { pending = t.order.items; last = t.last } };
+    ghost view = { λ t. record { pending = timers_at t.order.entries; last = t.last; delays = t.delays.items } };
 
-    ghost invariant = { λ t. IsKept t.order.items t.slots t.last };
+    ghost invariant = { λ t. IsKept (timers_at t.order.entries) t.slots t.last };
 }
 
 impl Timers {
-    ghost use Rattle.min_timer.specs.Queue.{number_of, is_timer_of, timer_of, without, with_timer, first_deadline, first_due, after_due};
-    ghost use Rattle.min_timer.specs.Queue.{due_keys};
+    ghost use Rattle.min_timer.specs.Queue.{number_of, timer_of, without, with_timer, first_deadline, first_due, after_due};
+    ghost use Rattle.min_timer.specs.Queue.{due_keys, has_delay, with_delay, are_too_many};
 
     /// No timers. Takes no memory; constant cost.
     pub fn new(alloc: Global) -> Timers
         ensures none { result.pending ≡ [] }
         ensures last { result.last ≡ 0 }
+        ensures delays { result.delays ≡ [] }
     {
         Timers {
-            order: VecDeque::new(alloc),
+            order: BTreeMap::new(alloc),
             slots: Slab::new(alloc),
+            delays: Vec::new(alloc),
             last: 0,
         }
     }
@@ -96,10 +75,41 @@ impl Timers {
         self.last
     }
 
+    /// Registers a delay, in milliseconds, that many timers will have. One that is registered
+    /// changes nothing. Takes memory; linear in the number of registered delays.
+    ///
+    /// Refused where 256 other delays are registered, then for want of memory.
+    ///
+    /// Libevent: event2/event.h, `event_base_init_common_timeout`.
+    pub fn common(&mut self, delay: u64) -> Result<(), TimerFault>
+        ensures registered { OnOk result (self.new ≡ record self.old { delays = with_delay delay self.old.delays }) }
+        ensures fits { OnOk result (are_too_many delay self.old.delays ≡ false) }
+
+        // on refusal
+        ensures refused { IfErr result (λ fault. fault
+            ≡ (if are_too_many delay self.old.delays then TimerFault.TooManyDelays else TimerFault.Memory)) }
+        ensures err { OnErr result (self.new ≡ self.old) }
+    {
+        if self.is_common(delay) {
+            return Ok(());
+        }
+        if self.delays.len() >= MAX_DELAYS {
+            return Err(TimerFault::TooManyDelays);
+        }
+        self.delays.push(delay)?;
+        Ok(())
+    }
+
+    /// Is this delay registered? Takes no memory; linear in the number of registered delays.
+    pub fn is_common(&self, delay: u64) -> bool
+        ensures { result ≡ has_delay delay self.now.delays }
+    {
+        self.delays.contains(&delay)
+    }
+
     /// Adds a timer with this deadline, in milliseconds, and hands out its handle. It comes after
     /// those with the same deadline. Its number, which is its stamp, is one above the last. Takes
-    /// memory. The place is found in the logarithm of the number of timers; up to half of them are
-    /// moved in memory, and none where the new one comes last.
+    /// memory; logarithmic in the number of timers.
     ///
     /// Refused where no number is left, then for want of memory.
     pub fn add(&mut self, deadline: u64, key: u64) -> Result<TimerKey, TimerFault>
@@ -111,24 +121,46 @@ impl Timers {
         // on refusal
         ensures spent { (result ≡ Err TimerFault.Spent) ↔ (2 ^ 64 ≤ self.old.last + 1) }
         ensures pending { result ≢ Err TimerFault.NotPending }
+        ensures many { result ≢ Err TimerFault.TooManyDelays }
         ensures err { OnErr result (self.new ≡ self.old) }
+
+        // in both cases
+        ensures delays { self.new.delays ≡ self.old.delays }
     {
         let stamp = self.last.checked_add(1).ok_or(TimerFault::Spent)?;
-        self.order.reserve(1)?;
         self.slots.reserve(1)?;
-        let slot = self.slots.insert_reserved(Moment { deadline, stamp });
-        let handle = TimerKey { slot, stamp };
-        let at = self
-            .order
-            .partition_point(|timer| timer.deadline <= deadline);
-        let timer = Timer {
-            deadline,
-            key,
-            handle,
-        };
-        self.order.insert(at, timer).unwrap();
+        let moment = Moment { deadline, stamp };
+        let slot = self.slots.vacant_key();
+        self.order.insert(moment, Seat { key, slot })?;
+        let slot = self.slots.insert_reserved(moment);
         self.last = stamp;
-        Ok(handle)
+        Ok(TimerKey { slot, stamp })
+    }
+
+    /// Adds a timer that comes due so long after now, both in milliseconds: what `add` does with their
+    /// sum. Costs what `add` does.
+    ///
+    /// Refused as `add` is.
+    ///
+    /// Libevent: event2/event.h, `event_add`.
+    pub fn add_after(&mut self, now: u64, delay: u64, key: u64) -> Result<TimerKey, TimerFault>
+        requires { now + delay < 2 ^ 64 }
+        // on success
+        ensures added { IfOk result (λ handle. self.new.pending
+            ≡ with_timer (record { deadline = now + delay; key = key; handle = handle }) self.old.pending) }
+        ensures numbered { IfOk result (λ handle. number_of handle ≡ self.old.last + 1) }
+        ensures counted { OnOk result (self.new.last ≡ self.old.last + 1) }
+
+        // on refusal
+        ensures spent { (result ≡ Err TimerFault.Spent) ↔ (2 ^ 64 ≤ self.old.last + 1) }
+        ensures pending { result ≢ Err TimerFault.NotPending }
+        ensures many { result ≢ Err TimerFault.TooManyDelays }
+        ensures err { OnErr result (self.new ≡ self.old) }
+
+        // in both cases
+        ensures delays { self.new.delays ≡ self.old.delays }
+    {
+        self.add(now + delay, key)
     }
 
     /// Takes the timer of this handle out, and answers its key. Takes no memory; costs what `add`
@@ -139,36 +171,50 @@ impl Timers {
         ensures answer { result ≡ ok_or (option_map (λ found. found.key) (timer_of timer self.old.pending)) TimerFault.NotPending }
         ensures left { self.new.pending ≡ without timer self.old.pending }
         ensures last { self.new.last ≡ self.old.last }
+        ensures delays { self.new.delays ≡ self.old.delays }
     {
-        let Some(at) = self.place_of(timer) else {
+        let Some(found) = self.timer_of(timer) else {
             return Err(TimerFault::NotPending);
         };
-        let found = self.order.remove(at).unwrap();
+        let moment = Moment {
+            deadline: found.deadline,
+            stamp: timer.stamp,
+        };
+        let _ = self.order.remove(&moment);
         let _ = self.slots.try_remove(timer.slot);
         Ok(found.key)
     }
 
-    // The place of the timer of this handle.
-    fn place_of(&self, timer: TimerKey) -> Option<usize>
-        ensures { MatchOption result (All (λ other. is_timer_of timer other ≡ false) self.now.pending) (λ at. (at < length self.now.pending) × HoldsAt (λ other. is_timer_of timer other ≡ true) self.now.pending at) }
+    // The timer that waits under this handle.
+    fn timer_of(&self, timer: TimerKey) -> Option<Timer>
+        ensures { result ≡ timer_of timer self.now.pending }
     {
         let moment = *self.slots.get(timer.slot)?;
-        let at = self
-            .order
-            .partition_point(|other| is_earlier(other.moment(), moment));
-        if self.order.get(at)?.handle == timer {
-            Some(at)
+        let seat = *self.order.get(&moment)?;
+        let found = Timer {
+            deadline: moment.deadline,
+            key: seat.key,
+            handle: TimerKey {
+                slot: seat.slot,
+                stamp: moment.stamp,
+            },
+        };
+        if found.handle == timer {
+            Some(found)
         } else {
             None
         }
     }
 
-    /// The deadline of the first timer, or None where none waits. Takes no memory; constant cost.
+    /// The deadline of the first timer, or None where none waits. Takes no memory; logarithmic in the
+    /// number of timers.
     pub fn next_deadline(&self) -> Option<u64>
         ensures { result ≡ first_deadline self.now.pending }
     {
-        let first = self.order.front()?;
-        Some(first.deadline)
+        match self.order.first_key_value() {
+            Some((moment, _)) => Some(moment.deadline),
+            None => None,
+        }
     }
 
     /// The keys of the timers whose deadline is at most this time, in milliseconds, in the order in which
@@ -178,28 +224,28 @@ impl Timers {
         ensures refused { IfErr result (λ fault. fault ≡ TimerFault.Memory) }
     {
         let mut keys = Vec::new(alloc);
-        for at in 0..self.order.len() {
-            let timer = self.order[at];
-            if timer.deadline > time {
+        for (moment, seat) in &self.order {
+            if moment.deadline > time {
                 break;
             }
-            keys.push(timer.key)?;
+            keys.push(seat.key)?;
         }
         Ok(keys)
     }
 
     /// Takes out the first timer whose deadline is at most now, in milliseconds, and answers its key
-    /// and its deadline: None where none is due. Takes no memory; constant cost.
+    /// and its deadline: None where none is due. Takes no memory; costs what `add` does.
     pub fn take_due(&mut self, now: u64) -> Option<(u64, u64)>
         ensures first { result ≡ first_due now self.old.pending }
         ensures left { self.new.pending ≡ after_due now self.old.pending }
         ensures last { self.new.last ≡ self.old.last }
+        ensures delays { self.new.delays ≡ self.old.delays }
     {
-        if self.order.front()?.deadline > now {
+        if self.next_deadline()? > now {
             return None;
         }
-        let first = self.order.pop_front()?;
-        let _ = self.slots.try_remove(first.handle.slot);
-        Some((first.key, first.deadline))
+        let (moment, seat) = self.order.pop_first()?;
+        let _ = self.slots.try_remove(seat.slot);
+        Some((seat.key, moment.deadline))
     }
 }

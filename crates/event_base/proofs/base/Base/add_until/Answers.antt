@@ -29,7 +29,7 @@ gone (Some a) h = cc h
 kept_by : (events : List Event) (deadlines : DeadlinesValue) (ready : ReadyValue) (k last : ℕ) (e : Event) (t : Timeout) → AreKept
     events deadlines ready → slice_get events k ≡ Some e
     → AreKept (set events k (added (Some t) e))
-    (record { moments = set deadlines.moments k (Some (record { deadline = t.deadline; order = t.order })); last = last })
+    (record deadlines { moments = set deadlines.moments k (Some (record { deadline = t.deadline; order = t.order })); last = last })
     (record ready { places = cond (is_active (added (Some t) e)) ready.places (set ready.places k None) })
 kept_by events deadlines ready k last e t kept is = split (is_active (added (Some t) e)) refl
   where
@@ -37,13 +37,17 @@ kept_by events deadlines ready k last e t kept is = split (is_active (added (Som
     low = priority-within events deadlines ready k e kept is
 
     split : (b : Bool) → is_active (added (Some t) e) ≡ b → AreKept (set events k (added (Some t) e))
-        (record { moments = set deadlines.moments k (Some (record { deadline = t.deadline; order = t.order })); last = last })
+        (record deadlines { moments = set deadlines.moments k (Some (record { deadline = t.deadline; order = t.order })); last = last })
         (record ready { places = cond b ready.places (set ready.places k None) })
-    split true h = AreKept-last _ (set deadlines.moments k (Some (record { deadline = t.deadline; order = t.order })))
-        deadlines.last last _ (AreKept-moment events deadlines ready k e (added (Some t) e) _ kept is refl
+    split true h = AreKept-last _ (record deadlines {
+      moments = set deadlines.moments k (Some (record { deadline = t.deadline; order = t.order }));
+    })
+        last _ (AreKept-moment events deadlines ready k e (added (Some t) e) _ kept is refl
         (ap (option_map (λ (a : Activation). record { priority = e.priority; order = a.order })) (stays e.active h)) low)
-    split false h = AreKept-last _ (set deadlines.moments k (Some (record { deadline = t.deadline; order = t.order })))
-        deadlines.last last _ (AreKept-set events deadlines ready k e (added (Some t) e) _ None kept is refl
+    split false h = AreKept-last _ (record deadlines {
+      moments = set deadlines.moments k (Some (record { deadline = t.deadline; order = t.order }));
+    })
+        last _ (AreKept-set events deadlines ready k e (added (Some t) e) _ None kept is refl
         (ap (option_map (λ (a : Activation). record { priority = e.priority; order = a.order }))
         (gone (not_by_timeout e.active) h)) low)
 

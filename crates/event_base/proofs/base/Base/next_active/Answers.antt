@@ -121,5 +121,6 @@ returns-clause-ok c =
       c.called-called.ensures,
       c.in_ok-timeout.ensures.timeout,
       c.in_ok-timeout.ensures.last,
+      c.set_again.ensures.delays,
       c.rest_front_unless.ensures,
     ) step

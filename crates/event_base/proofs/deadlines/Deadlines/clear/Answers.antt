@@ -19,8 +19,8 @@ returns-in_default c =
     let none : at waiting c.args.event ≡ None = sym (c.in_default.ensures ∙ ap (λ xs. at xs c.args.event) c.deref.ensures.value) in
     let same : set (moments waiting) c.args.event None ≡ moments waiting = ap (set (moments waiting) c.args.event)
     (sym (at-moments waiting c.args.event ∙ ap (option_map moment) none)) ∙ set-get_or (moments waiting) c.args.event None in
-    rw (← c.self.view_is) (value_of-same _ _ _ _ (sym same) refl)
+    rw (← c.self.view_is) (value_of-same _ _ _ _ _ _ (sym same) refl refl)
 
 pub returns : goal.returns
 returns c = let same = map-set (option_map moment) c.self.inside.waiting.items c.args.event None in
-    rw (← c.self.view_is) (value_of-same _ _ _ _ same c.cancel.ensures.last)
+    rw (← c.self.view_is) (value_of-same _ _ _ _ _ _ same c.cancel.ensures.last c.cancel.ensures.delays)

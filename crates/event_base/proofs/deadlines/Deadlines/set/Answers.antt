@@ -34,9 +34,9 @@ returns-in-Some-clause-ok c =
     let w : Waiting = record { deadline = c.args.deadline; timer = c.in_ok-timer.timer } in
     let number : moment w ≡ (record { deadline = c.args.deadline; order = c.self.inside.timers.last + 1 }) = ap
     (λ n. record { deadline = c.args.deadline; order = n }) c.in_ok-timer.ensures.numbered in
-    rw (← c.self.view_is) (value_of-same _ _ _ _ (map-set (option_map moment) waiting c.args.event (Some w) ∙ ap
+    rw (← c.self.view_is) (value_of-same _ _ _ _ _ _ (map-set (option_map moment) waiting c.args.event (Some w) ∙ ap
     (λ m. set (moments waiting) c.args.event (Some m)) number)
-    (c.cancel.ensures.last ∙ c.in_ok-timer.ensures.counted))
+    (c.cancel.ensures.last ∙ c.in_ok-timer.ensures.counted) (c.cancel.ensures.delays ∙ c.add.ensures.delays))
 
 pub returns-in_default-clause-ok : goal.returns-in_default-clause-ok
 returns-in_default-clause-ok c =
@@ -44,6 +44,6 @@ returns-in_default-clause-ok c =
     let w : Waiting = record { deadline = c.args.deadline; timer = c.in_ok-timer.timer } in
     let number : moment w ≡ (record { deadline = c.args.deadline; order = c.self.inside.timers.last + 1 }) = ap
     (λ n. record { deadline = c.args.deadline; order = n }) c.in_ok-timer.ensures.numbered in
-    rw (← c.self.view_is) (value_of-same _ _ _ _ (map-set (option_map moment) waiting c.args.event (Some w) ∙ ap
+    rw (← c.self.view_is) (value_of-same _ _ _ _ _ _ (map-set (option_map moment) waiting c.args.event (Some w) ∙ ap
     (λ m. set (moments waiting) c.args.event (Some m)) number)
-    c.in_ok-timer.ensures.counted)
+    c.in_ok-timer.ensures.counted c.add.ensures.delays)
