@@ -181,13 +181,16 @@ module _ (w : NumberSetValue) (time : ℕ) (k : Links) (members : List (ℕ × �
   pub watching-alike : (j : Links) (e : SideId) (y : PlainSide) → j.sides ≡ slice_set k.sides (number e) y →
       IsAlike (links.side_at k e) y → j.gauges ≡ k.gauges → j.opened ≡ k.opened → IsWatching w time j members
   watching-alike j e y sides like gauges opened =
-      watching-at w j members refl opened (λ z out. (out, λ p.
-      let P : PlainSide → Type 0 = λ x. IsTimeless time x (links.gauge_at k z) (group_of (number z) members) in
-      let moved : P (links.side_at j z) = subst (λ xs. P (slice_index_or xs (number z) no_side)) (sym sides)
-      (set-keeps P k.sides (number e) (number z) y
-      (λ same q. timeless-alike time (links.side_at k e) y (links.gauge_at k z) (group_of (number z) members) like q) p) in
-      subst (λ xs. IsTimeless time (links.side_at j z) (slice_index_or xs (number z) no_gauge) (group_of (number z) members))
-      (sym gauges) moved))
+      watching-at w j members refl opened (λ z out. (
+        out,
+        λ p.
+            let P : PlainSide → Type 0 = λ x. IsTimeless time x (links.gauge_at k z) (group_of (number z) members) in
+            let moved : P (links.side_at j z) = subst (λ xs. P (slice_index_or xs (number z) no_side)) (sym sides)
+            (set-keeps P k.sides (number e) (number z) y
+            (λ same q. timeless-alike time (links.side_at k e) y (links.gauge_at k z) (group_of (number z) members) like q) p) in
+            subst (λ xs. IsTimeless time (links.side_at j z) (slice_index_or xs (number z) no_gauge) (group_of (number z) members))
+            (sym gauges) moved,
+      ))
 
   -- with one side changed so by a function
   pub watching-changed : (j : Links) (e : SideId) (f : PlainSide → PlainSide) → j ≡ change_side e f k →
@@ -200,17 +203,20 @@ module _ (w : NumberSetValue) (time : ℕ) (k : Links) (members : List (ℕ × �
   pub watching-freed : (j : Links) (e : SideId) (n : ℕ) (new : List (ℕ × ℕ)) → j ≡ links.freed e k →
       new ≡ remove_entry (nat_eq n) members → IsWatching w time j new
   watching-freed j e n new is gone =
-      watching-at w j new refl (ap (λ (z : Links). z.opened) is) (λ z out. (out, λ p.
-      let o : Option ℕ = group_of (number z) new in
-      let none : o ≡ None = ap (group_of (number z)) gone ∙ left-keeps (number z) n members p.alone in
-      let P : PlainSide → Type 0 = λ x. IsTimeless time x (links.gauge_at k z) o in
-      let dead : PlainSide → PlainSide = λ x. record x { live = false; group = None } in
-      let here : P (links.side_at k z) = subst (λ g. IsTimeless time (links.side_at k z) (links.gauge_at k z) g) (p.alone ∙ sym none) p in
-      let moved : P (links.side_at j z) = subst (λ xs. P (slice_index_or xs (number z) no_side)) (sym (ap (λ (z : Links). z.sides) is))
-      (set-keeps P k.sides (number e) (number z) (dead (links.side_at k e))
-      (λ same q. freed-timeless time (links.side_at k e) (links.gauge_at k z) o none) here) in
-      subst (λ xs. IsTimeless time (links.side_at j z) (slice_index_or xs (number z) no_gauge) o)
-      (sym (ap (λ (z : Links). z.gauges) is)) moved))
+      watching-at w j new refl (ap (λ (z : Links). z.opened) is) (λ z out. (
+        out,
+        λ p.
+            let o : Option ℕ = group_of (number z) new in
+            let none : o ≡ None = ap (group_of (number z)) gone ∙ left-keeps (number z) n members p.alone in
+            let P : PlainSide → Type 0 = λ x. IsTimeless time x (links.gauge_at k z) o in
+            let dead : PlainSide → PlainSide = λ x. record x { live = false; group = None } in
+            let here : P (links.side_at k z) = subst (λ g. IsTimeless time (links.side_at k z) (links.gauge_at k z) g) (p.alone ∙ sym none) p in
+            let moved : P (links.side_at j z) = subst (λ xs. P (slice_index_or xs (number z) no_side)) (sym (ap (λ (z : Links). z.sides) is))
+            (set-keeps P k.sides (number e) (number z) (dead (links.side_at k e))
+            (λ same q. freed-timeless time (links.side_at k e) (links.gauge_at k z) o none) here) in
+            subst (λ xs. IsTimeless time (links.side_at j z) (slice_index_or xs (number z) no_gauge) o)
+            (sym (ap (λ (z : Links). z.gauges) is)) moved,
+      ))
 
   -- A link became watched: whatever became of one side of it
   pub watching-more : (v : NumberSetValue) (j : Links) (new : List (ℕ × ℕ)) (e : SideId) (y : PlainSide) (x : Gauge) →
@@ -225,9 +231,11 @@ module _ (w : NumberSetValue) (time : ℕ) (k : Links) (members : List (ℕ × �
       let side : links.side_at j z ≡ links.side_at k z = ap (λ xs. slice_index_or xs (number z) no_side) sides
       ∙ get_or-set_other k.sides (number e) (number z) y no_side differ in
       let gauge : links.gauge_at j z ≡ links.gauge_at k z = ap (λ xs. slice_index_or xs (number z) no_gauge) gauges
-      ∙ get_or-set_other k.gauges (number e) (number z) x no_gauge differ in
-      (sym (ap (λ b. if b then true else w.has z.link) apart) ∙ sym (has z.link) ∙ out, λ p.
-      timeless-parts time (sym side) (sym gauge) (p.alone ∙ sym (groups z other p.alone)) p))
+      ∙ get_or-set_other k.gauges (number e) (number z) x no_gauge differ in (
+        sym (ap (λ b. if b then true else w.has z.link) apart) ∙ sym (has z.link) ∙ out,
+        λ p.
+            timeless-parts time (sym side) (sym gauge) (p.alone ∙ sym (groups z other p.alone)) p,
+      ))
     where
       go : (b c : Bool) → (if b then true else c) ≡ false → b ≡ false
       go true c q = q
@@ -257,9 +265,10 @@ module _ (w : NumberSetValue) (time : ℕ) (k : Links) (members : List (ℕ × �
             (ap w.has here.1 ∙ parts.1, λ p. timeless-parts time (sym side) (sym gauge) refl p)
         | inr other ↦
             let gauge : links.gauge_at j z ≡ links.gauge_at k z = ap (λ xs. slice_index_or xs (number z) no_gauge) gauges
-            ∙ get_or-set_other k.gauges (number e) (number z) _ no_gauge (numbers-differ e z other.1) in
-            (sym (ap (λ b. if b then limited || w.has e.link else w.has z.link) other.0) ∙ sym (has z.link) ∙ out,
-            λ p. timeless-parts time (sym side) (sym gauge) refl p)
+            ∙ get_or-set_other k.gauges (number e) (number z) _ no_gauge (numbers-differ e z other.1) in (
+              sym (ap (λ b. if b then limited || w.has e.link else w.has z.link) other.0) ∙ sym (has z.link) ∙ out,
+              λ p. timeless-parts time (sym side) (sym gauge) refl p,
+            )
       ])
     where
       unlimited : (l : Option Standing) (x : Gauge) (d : Dir) (n : ℕ) → is_some (left_by l x d time) ≡ false →
@@ -309,9 +318,12 @@ module _ (w : NumberSetValue) (time : ℕ) (k : Links) (members : List (ℕ × �
   -- a side left its group
   pub watching-left : (n : ℕ) (new : List (ℕ × ℕ)) → new ≡ remove_entry (nat_eq n) members → IsWatching w time k new
   watching-left n new gone =
-      watching-at w k new refl refl (λ z out. (out, λ p.
-      let none : group_of (number z) new ≡ None = ap (group_of (number z)) gone ∙ left-keeps (number z) n members p.alone in
-      timeless-parts time refl refl (p.alone ∙ sym none) p))
+      watching-at w k new refl refl (λ z out. (
+        out,
+        λ p.
+            let none : group_of (number z) new ≡ None = ap (group_of (number z)) gone ∙ left-keeps (number z) n members p.alone in
+            timeless-parts time refl refl (p.alone ∙ sym none) p,
+      ))
 
   -- there are more places
   pub watching-wider : (v : NumberSetValue) → w.len ≤ v.len → ((n : ℕ) → v.has n ≡ w.has n) → IsWatching v time k members
