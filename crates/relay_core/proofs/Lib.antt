@@ -5,3 +5,5 @@ pub mod WaitLemmas
 pub mod FireLemmas
 pub mod TimerLemmas
 pub mod AskLemmas
+pub mod WatchLemmas
+pub mod SkipLemmas

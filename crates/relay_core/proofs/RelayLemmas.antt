@@ -347,3 +347,38 @@ module _ (v : RelayValue) (r : Inside) (is : relay_of r ≡ v) where
       let lanes = ap (λ (s : State). s.lanes) all in
       let gauges = ap (λ (s : State). s.gauges) all in
       differs (λ j. record { opened = opened j; sides = sides j; flows = flows j; lanes = lanes j; gauges = gauges j })
+
+-- Less is claimed where fewer relays are without timeouts and limits.
+
+pub lowered : (g : Settings) (time : ℕ) (u less : Bool) (k : Links) → (less ≡ true → u ≡ true) → AreSound g time u k →
+    AreSound g time less k
+lowered g time u less k down h = record {
+  unset = λ e. h.unset (down e);
+  sides = λ i d lt. let p = h.sides i d lt in (p.0, p.1, λ e. p.2 (down e));
+  gauges = h.gauges;
+}
+
+pub lowered_groups : (x : RateGroups) (u less : Bool) (y : GroupsValue) → (less ≡ true → u ≡ true) → HasGroups x u y → HasGroups x less y
+lowered_groups x u less y down h = record {
+  many = h.many;
+  in_group = h.in_group;
+  out_group = h.out_group;
+  none = h.none;
+  untimed = λ e. h.untimed (down e);
+}
+
+-- another limit is set, and none where nothing is timed
+pub limited_sound : (g : Settings) (time : ℕ) (u : Bool) (turn : ℕ) (k j : Links) (e : SideId) (cfg : Option LimitCfg) →
+    (u ≡ true → cfg ≡ None) → AreSound g time u k → j ≡ links.limited time turn e cfg k → AreSound g time u j
+limited_sound g time u turn k j e cfg none h is =
+    let x : Gauge = links.gauge_at k e in
+    let f : PlainSide → PlainSide = λ y. record y { limit = links.limit_set_on x time turn y.limit cfg } in
+    let mid : Links = change_side e f k in
+    gauge_sound g time u mid j e (gauge_set (links.side_at k e).limit cfg time x)
+    (still_sound g time u k mid e f h (λ p. (
+      p.0,
+      p.1,
+      λ t. let q = p.2 t in
+          (q.0, q.1, ap (links.limit_set_on x time turn (links.side_at k e).limit) (none t)),
+    )) refl refl)
+    (gauge_set-time (links.side_at k e).limit cfg time x) (ap (λ (z : Links). z.sides) is) (ap (λ (z : Links). z.gauges) is)

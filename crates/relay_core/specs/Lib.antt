@@ -9,4 +9,5 @@ pub mod Waits
 pub mod Steps
 pub mod Pairs
 pub mod Rateless
+pub mod Timeless
 pub mod Answered

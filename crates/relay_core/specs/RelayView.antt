@@ -16,6 +16,7 @@ use Rattle.relay_waits.specs.WaitsValue.{WaitsValue}
 use Rattle.relay_core.specs.Fires.{events_of}
 use Rattle.relay_core.specs.GivenGroups.{settings_given}
 use Rattle.relay_core.specs.RelayValue.{RelayValue}
+use Rattle.relay_core.specs.Timeless.{IsWatching}
 use Rattle.relay_core.specs.declared.ctl.Ctl.TheInside.{Inside}
 use Rattle.relay_core.specs.declared.rate_groups.RateGroups.{RateGroups}
 
@@ -42,10 +43,11 @@ state_over r k w = record {
 abbrev pub state_with : Inside → Links → State
 state_with r k = state_over r k r.waits
 
--- There is memory for the limits of a new link, and room for its sides in the groups.
+-- There is memory for the limits of a new link, room for its sides in the groups, and a place among those that may be watched.
 abbrev pub has_room_for_rates : Inside → Bool
 has_room_for_rates r =
-    nat_le (limits_in r.settings.in_rate + limits_in r.settings.out_rate) r.spare_limits
+    nat_le (r.sides.links.opened + 1) r.watched.len
+    && nat_le (limits_in r.settings.in_rate + limits_in r.settings.out_rate) r.spare_limits
     && (nat_le (length r.given.groups.items) 0 || nat_le 2 r.groups.spare)
 
 abbrev pub relay_of : Inside → RelayValue
@@ -94,6 +96,7 @@ pub record HasGroups (given : RateGroups) (still : Bool) (x : GroupsValue) : Typ
 pub record IsSound (r : Inside) : Type 0 where
   pub timed : AreSound r.settings r.time r.untimed r.sides.links
   pub grouped : HasGroups r.given r.untimed r.groups.value
+  pub watching : IsWatching r.watched r.time r.sides.links r.groups.value.members
   pub time : r.time ≤ 2 ^ 62
   pub few : r.asks ≤ 256
   pub room : vec_len r.log + 2 * (256 - r.asks) ≤ vec_capacity r.log

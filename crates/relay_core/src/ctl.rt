@@ -10,6 +10,7 @@ ghost use Rattle.relay_core.specs.Fires.{SameFire};
 use crate::rate_groups::RateGroups;
 use crate::rates::leave;
 use ev_types::{Entry, Settings, SideId, Why};
+use number_set::NumberSet;
 use rate_group::Groups;
 use relay_sides::{Dir, Sides, SpareLimits};
 use relay_waits::Waits;
@@ -26,6 +27,8 @@ pub struct Ctl {
     pub(crate) given: RateGroups,
     /// Whether nothing but timers depends on the time: no side has a timeout or a limit, and there are no groups.
     pub(crate) untimed: bool,
+    /// The links at which time may change something: a side that is not of one of them waits for no moment.
+    pub(crate) watched: NumberSet,
     pub(crate) time: u64,
     pub(crate) turns: u64,
     pub(crate) sides: Sides,

@@ -1,5 +1,5 @@
 // What time brings: the start of a turn, and for how long a poll may wait. A side that is idle for as long as one of its
-// timeouts expires. Where no side has a timeout or a limit and there are no groups, none is looked at.
+// timeouts expires. Only the links are looked at that are watched.
 ghost use Rattle.std.specs.Prelude.{◌≡◌, ◌^◌, ◌<◌, ◌||◌, min, max, fold, map, true};
 ghost use Rattle.std.specs.List.{list_any, flat_map};
 ghost use Rattle.ev_types.specs.declared.why.Why.TheVariants.{Event};
@@ -43,14 +43,6 @@ fn timeout_flags(dir: Dir) -> Flags
 }
 
 impl Relay {
-    /// Whether the side is live and has a timeout for the direction.
-    fn is_timed(&self, side: SideId, dir: Dir) -> bool
-        requires { side.link < self.now.state.plain.opened }
-        ensures { result ≡ is_timed (side_at self.now.state.plain side) dir }
-    {
-        self.ctl.sides.is_live(side) && self.ctl.sides.timeout(side, dir) >= 1
-    }
-
     fn wants(&self, side: SideId, dir: Dir) -> bool
         requires { side.link < self.now.state.plain.opened }
         ensures { result ≡ wants self.now.state side dir }
@@ -75,12 +67,13 @@ impl Relay {
         ensures state { self.new.state ≡ timed side self.old.state dir }
         ensures untimed { self.new.untimed ≡ self.old.untimed }
     {
-        if !self.is_timed(side, dir) {
+        if !self.ctl.is_timed(side, dir) {
             return;
         }
         if !self.wants(side, dir) {
             self.ctl.sides.be_active(side, dir, self.ctl.time);
         } else if self.has_run_out(side, dir) {
+            self.ctl.watched.insert(side.link as usize);
             self.ctl.sides.expire(side, dir);
             self.ctl.raise(side, Why::Event(timeout_flags(dir)));
         }
@@ -97,7 +90,7 @@ impl Relay {
         self.look_at(side, Dir::Write);
     }
 
-    /// The time is held against all sides, in number order.
+    /// The time is held against all sides, in number order. Only those of watched links are looked at.
     fn look_at_sides(&mut self)
         ensures state { self.new.state ≡ fold side_timed self.old.state (all_sides self.old.state.plain) }
         ensures still { self.old.untimed ≡ true → self.new.state ≡ self.old.state }
@@ -106,13 +99,15 @@ impl Relay {
         if self.ctl.untimed {
             return;
         }
-        for link in 0..self.ctl.sides.opened() {
+        let mut from = 0;
+        while let Some(link) = self.next_watched(from) {
             let near = SideId {
                 link,
                 side: Side::In,
             };
             self.look_at_side(near);
             self.look_at_side(near.peer());
+            from = link + 1;
         }
     }
 
@@ -151,8 +146,8 @@ impl Relay {
 
     /// A turn begins. A reading of the clock becomes the time, cut at 2^62 and unless the time is greater. Answers the time. The timers
     /// that have come are taken, and all groups are refilled. Where no side has a timeout or a limit and there are no groups, nothing else
-    /// changes, and what an end may move doesn't grow with the time. Takes no memory; linear in the timers that are taken, and else also in
-    /// the number of links and of groups.
+    /// changes, and what an end may move doesn't grow with the time. Takes no memory; linear in the timers that are taken, in the links that
+    /// are watched and in the number of groups.
     ///
     /// Own.
     pub fn begin(&mut self, reading: u64) -> u64
@@ -175,10 +170,12 @@ impl Relay {
     fn any_is_expired(&self) -> bool
         ensures { result ≡ list_any (is_expired self.now.state) (all_sides self.now.state.plain) }
     {
-        for link in 0..self.ctl.sides.opened() {
+        let mut from = 0;
+        while let Some(link) = self.next_watched(from) {
             if self.link_is_expired(link) {
                 return true;
             }
+            from = link + 1;
         }
         false
     }
@@ -191,15 +188,7 @@ impl Relay {
             link,
             side: Side::In,
         };
-        self.is_expired(near) || self.is_expired(near.peer())
-    }
-
-    fn is_expired(&self, side: SideId) -> bool
-        requires { side.link < self.now.state.plain.opened }
-        ensures { result ≡ is_expired self.now.state side }
-    {
-        let flags = self.ctl.sides.flags(side);
-        flags.live && flags.expired
+        self.ctl.is_expired(near) || self.ctl.is_expired(near.peer())
     }
 
     /// For how many milliseconds more the direction may be idle, where it is wanted and has a timeout.
@@ -207,7 +196,7 @@ impl Relay {
         requires { side.link < self.now.state.plain.opened }
         ensures { result ≡ wait_until self.now.state.plain.time (expiry self.now.state side dir) }
     {
-        if !self.is_timed(side, dir) || !self.wants(side, dir) {
+        if !self.ctl.is_timed(side, dir) || !self.wants(side, dir) {
             return None;
         }
         let idle = self.ctl.sides.idle_time(side, dir, self.ctl.time);
@@ -229,13 +218,15 @@ impl Relay {
         ensures { result ≡ wait_until self.now.state.plain.time (expiries self.now.state (all_sides self.now.state.plain)) }
     {
         let mut least = None;
-        for link in 0..self.ctl.sides.opened() {
+        let mut from = 0;
+        while let Some(link) = self.next_watched(from) {
             let near = SideId {
                 link,
                 side: Side::In,
             };
             let wait = earlier(self.wait_at(near), self.wait_at(near.peer()));
             least = earlier(least, wait);
+            from = link + 1;
         }
         least
     }
@@ -278,13 +269,15 @@ impl Relay {
         ensures { result ≡ wait_until self.now.state.plain.time (gains self.now.state (all_sides self.now.state.plain)) }
     {
         let mut least = None;
-        for link in 0..self.ctl.sides.opened() {
+        let mut from = 0;
+        while let Some(link) = self.next_watched(from) {
             let near = SideId {
                 link,
                 side: Side::In,
             };
             let wait = earlier(self.gain_wait(near), self.gain_wait(near.peer()));
             least = earlier(least, wait);
+            from = link + 1;
         }
         least
     }
@@ -309,8 +302,8 @@ impl Relay {
         earlier(limited, self.group_wait())
     }
 
-    /// For how many milliseconds a poll may wait; None is for ever. Constant where no side has a timeout or a limit and there are no
-    /// groups, else linear in the number of links and of groups.
+    /// For how many milliseconds a poll may wait; None is for ever. Takes no memory; constant where no side has a timeout or a limit and
+    /// there are no groups, else linear in the links that are watched and in the number of groups.
     pub fn poll_timeout(&self) -> Option<u64>
         ensures { result ≡ poll_timeout self.now.state }
     {

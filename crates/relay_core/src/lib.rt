@@ -24,6 +24,7 @@ mod rates;
 mod relay;
 mod room;
 mod serve;
+mod watched;
 
 pub use close::Closing;
 pub use ctl::Ctl;

@@ -1,14 +1,17 @@
 // Opening links.
-ghost use Rattle.std.specs.Prelude.{◌≡◌, ◌<◌, ◌≤◌, nat_lt, OnOk};
+ghost use Rattle.std.specs.Prelude.{◌≡◌, ◌+◌, ◌<◌, ◌≤◌, ◌||◌, nat_le, nat_lt, true, length, OnOk};
 ghost use Rattle.relay_state.specs.Opening.{after_opened};
+ghost use Rattle.relay_sides.specs.Opening.{limits_in};
 ghost use Rattle.relay_core.specs.Pairs.{HasPairs};
 ghost use Rattle.relay_core.specs.SettingsView.{near_of, far_of};
 
 use crate::ask::MOST_ASKS;
+use crate::rate_groups::RateGroups;
 use crate::rates::join_where;
 use crate::relay::Relay;
 use ev_types::{NoMemory, Settings, Side, SideId};
-use relay_sides::NewSide;
+use rate_group::Groups;
+use relay_sides::{NewSide, SpareLimits};
 
 impl Relay {
     /// How many links were opened. The relay keeps two sides and two directions for each of them. Constant; takes no memory.
@@ -33,14 +36,16 @@ impl Relay {
         ensures state { self.new.state ≡ self.old.state }
         ensures room { OnOk result (0 < self.new.spare_links) }
     {
-        self.ctl.asks = MOST_ASKS;
-        if self.ctl.settings.in_rate.is_some() || self.ctl.settings.out_rate.is_some() {
-            self.ctl.spare_limits.reserve(2)?;
-        }
-        if !self.ctl.given.groups.is_empty() && self.ctl.groups.reserve_members(2).is_err() {
-            return Err(NoMemory);
-        }
-        self.ctl.sides.reserve_link()
+        let ctl = &mut self.ctl;
+        ctl.asks = MOST_ASKS;
+        reserve_rates(
+            &ctl.settings,
+            &ctl.given,
+            &mut ctl.spare_limits,
+            &mut ctl.groups,
+        )?;
+        ctl.watched.lengthen(ctl.sides.opened() as usize + 1)?;
+        ctl.sides.reserve_link()
     }
 
     /// Opens the next link, in room that was made before. Its In end is connected; whether its Out end is, is told. Takes
@@ -59,11 +64,33 @@ impl Relay {
             side: Side::In,
         };
         ctl.asks = MOST_ASKS;
+        ctl.watched.insert(first.link as usize);
         ctl.sides
             .open(near, far, ctl.time, ctl.turns, &mut ctl.spare_limits);
         join_where(&mut ctl.groups, near.group, first);
         join_where(&mut ctl.groups, far.group, first.peer());
     }
+}
+
+/// Makes memory for the limits of one link more, and room for its sides in the groups.
+fn reserve_rates(
+    settings: &Settings,
+    given: &RateGroups,
+    spare: &mut SpareLimits,
+    groups: &mut Groups,
+) -> Result<(), NoMemory>
+    ensures value { groups.new.value ≡ groups.old.value }
+    ensures more { spare.old ≤ spare.new }
+    ensures limits { OnOk result (limits_in settings.now.in_rate + limits_in settings.now.out_rate ≤ spare.new) }
+    ensures members { OnOk result (nat_le (length given.now.groups.items) 0 || nat_le 2 groups.new.spare ≡ true) }
+{
+    if settings.in_rate.is_some() || settings.out_rate.is_some() {
+        spare.reserve(2)?;
+    }
+    if !given.groups.is_empty() && groups.reserve_members(2).is_err() {
+        return Err(NoMemory);
+    }
+    Ok(())
 }
 
 /// What the In side of the next link gets. Its end is connected.

@@ -1,5 +1,5 @@
 // What limits and groups leave to sides, and what they lose as bytes are moved.
-ghost use Rattle.std.specs.Prelude.{◌≡◌, ◌<◌, ◌≤◌, ◌+◌, length, IfSome};
+ghost use Rattle.std.specs.Prelude.{◌≡◌, ℕ, ◌<◌, ◌≤◌, ◌+◌, ◌==◌, ◌||◌, if◌then◌else◌, length, IfSome};
 ghost use Rattle.ev_types.specs.Sides.{number};
 ghost use Rattle.rate_group.specs.Steps.{share_in, spent, left};
 ghost use Rattle.relay_model.specs.Rooms.{at_most};
@@ -11,6 +11,7 @@ ghost use Rattle.relay_core.specs.Fires.{SameFire};
 
 use crate::ctl::Ctl;
 use ev_types::SideId;
+use number_set::NumberSet;
 use rate_group::Groups;
 use relay_sides::Dir;
 
@@ -31,6 +32,17 @@ fn spend_share(groups: &mut Groups, side: u64, dir: Dir, count: u64)
 {
     if groups.share(side, dir).is_some() {
         groups.spend(side, dir, count);
+    }
+}
+
+/// A link is watched, where that is told.
+fn watch_where(watched: &mut NumberSet, link: u32, told: bool)
+    requires { link < watched.old.len }
+    ensures len { watched.new.len ≡ watched.old.len }
+    ensures members { (n : ℕ) → watched.new.has n ≡ (if n == link then told || watched.old.has link else watched.old.has n) }
+{
+    if told {
+        watched.insert(link as usize);
     }
 }
 
@@ -74,6 +86,8 @@ impl Ctl {
         ensures fire { SameFire self.old self.new }
         ensures reads { self.new.spare_reads ≡ self.old.spare_reads }
     {
+        let limited = self.sides.allowance(side, dir, self.time).is_some();
+        watch_where(&mut self.watched, side.link, limited);
         self.sides.spend(side, dir, count as u64, self.time);
         spend_share(&mut self.groups, side.number() as u64, dir, count as u64);
     }

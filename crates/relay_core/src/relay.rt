@@ -10,6 +10,7 @@ use crate::ask::MOST_ASKS;
 use crate::ctl::Ctl;
 use crate::rate_groups::RateGroups;
 use ev_types::{NoMemory, Settings, Side, SideId, Timeouts};
+use number_set::NumberSet;
 use rate_group::Groups;
 use relay_sides::{Sides, SpareLimits};
 use relay_waits::Waits;
@@ -90,6 +91,7 @@ impl Relay {
             asks: MOST_ASKS,
             stopped: false,
             log: Vec::new(alloc),
+            watched: NumberSet::new(alloc),
         };
         Ok(Relay { ctl })
     }

@@ -7,16 +7,14 @@ use Rattle.ev_types.specs.declared.side.SideId.{SideId}
 use Rattle.ev_types.specs.Sides.{number}
 use Rattle.ev_port.specs.Table.{WantsValue, RowsStay}
 use Rattle.number_set.specs.Numbers.{NumberSetValue}
-use Rattle.rate_group.specs.GroupsCalls.{no_groups}
 use Rattle.relay_state.specs.State.{State}
 use Rattle.relay_state.specs.Counting.{is_open}
 use Rattle.relay_state.specs.Closing.{in_side, out_side}
 use Rattle.relay_drive.specs.declared.agenda.Agenda.{Agenda}
-use Rattle.relay_model.specs.Settings.{Settings}
-use Rattle.relay_drive.specs.Links.{IsGroupless, SameLink, HasPairs, IsStill, IsSettled}
-use Rattle.relay_drive.specs.Agenda.{MayBeNamed, MayBeNamedRight, HoldsBeside, IsGone, IsKept, IsNamed, IsNamedRight, TouchedBut}
-use Rattle.relay_drive.specs.Agenda.{TouchedAll, IsCovered, ClosingNoted}
-use Rattle.relay_drive.specs.Agenda.{IsUntold, SameBesideWants, SaysOf, KeepsNames, TellsNames}
+use Rattle.relay_drive.specs.Links.{SameLink, WantsFreely, HasPairs, IsStill, IsSettled}
+use Rattle.relay_drive.specs.Agenda.{MayBeNamed, MayBeNamedRight, HoldsBeside, IsGone, IsKept, TouchedBut}
+use Rattle.relay_drive.specs.Agenda.{TouchedEach, IsCovered, ClosingNoted}
+use Rattle.relay_drive.specs.Agenda.{IsUntold, SameBesideWants, WouldSayOf, KeepsNames, TellsNames}
 use Rattle.ev_types.specs.Trace.{Trace}
 use Rattle.ev_port.specs.declared.port.Want.{Want}
 use Rattle.relay_drive.specs.Steps.{Each}
@@ -56,23 +54,13 @@ no_false h = absurd (cc)
 pub gone-same : (k : ℕ) (s new : State) → SameLink k s new → IsGone s k → IsGone new k
 gone-same k s new same h = open-same same ∙ h
 
--- what the table says of a link is still right, where there are no groups
-right-same : (t : WantsValue) (k : ℕ) (s new : State) → SameLink k s new → IsGroupless s → IsNamedRight t s k → IsNamedRight t new k
-right-same t k s new same none h = (
-  h.0,
-  (h.1.0 ∙ sym (wants-same same none (in_side k) refl dir.Read), h.1.1 ∙ sym (wants-same same none (in_side k) refl dir.Write)),
-  (h.2.0 ∙ sym (wants-same same none (out_side k) refl dir.Read), h.2.1 ∙ sym (wants-same same none (out_side k) refl dir.Write)),
-  far-same same ∙ h.3,
-)
-
--- and its counts have come as far
+-- what the table says of a link is still what its sides would want, and its counts have come as far
 pub named-same : (t : WantsValue) (k : ℕ) (s new : State) → SameLink k s new → MayBeNamedRight t s k → MayBeNamedRight t new k
 named-same t k s new same h = (
-  far-same same ∙ h.0,
-  λ unset.
-      let was : s.settings.groups ≡ [] = ap (λ (g : Settings). g.groups) (sym same.settings) ∙ unset in
-      let before = h.1 was in
-      (same.groups (was, before.0), right-same t k s new same (was, before.0) before.1),
+  h.0,
+  (h.1.0 ∙ sym (wants-same same (in_side k) refl dir.Read), h.1.1 ∙ sym (wants-same same (in_side k) refl dir.Write)),
+  (h.2.0 ∙ sym (wants-same same (out_side k) refl dir.Read), h.2.1 ∙ sym (wants-same same (out_side k) refl dir.Write)),
+  far-same same ∙ h.3,
 )
 
 -- A step at one link, behind which this link is looked at, and is among the open ones where it is open
@@ -134,28 +122,36 @@ names-beside l l' s want = λ table h. record {
   named = subst (λ z. HoldsBeside z (MayBeNamedRight table) s) (sym want) h.named;
 }
 
--- all links are looked at
-beside-all : (P : State → ℕ → Type 0) (old new : NumberSetValue) (s : State) → s.plain.opened ≤ old.len →
-    ((n : ℕ) → n < old.len → new.has n ≡ true) → HoldsBeside new P s
-beside-all P old new s covers all = λ n lt out. no_false (sym (all n (omega (arith, lt, covers))) ∙ out)
+-- Links of a set are looked at, and at the others the step changed nothing.
+module _ (set : NumberSetValue) (l l' : Agenda) (s s' : State) (opened : s'.plain.opened ≡ s.plain.opened)
+    (t : TouchedEach set s'.plain.opened l l') where
+  beside-each : (P : State → ℕ → Type 0) (old new : NumberSetValue) →
+      ((n : ℕ) → n < s'.plain.opened → new.has n ≡ false → (set.has n ≡ false) × (old.has n ≡ false)) →
+      ((n : ℕ) → n < s'.plain.opened → set.has n ≡ false → P s n → P s' n) → HoldsBeside old P s → HoldsBeside new P s'
+  beside-each P old new touched keeps h = λ n lt out.
+      let both = touched n lt out in
+      keeps n lt both.0 (h n (subst (λ m. n < m) opened lt) both.1)
 
-pub kept-all : (l l' : Agenda) (s s' : State) → s'.plain.opened ≡ s.plain.opened → TouchedAll l l' → IsKept l s → IsKept l' s'
-kept-all l l' s s' opened t h = record {
-  pass_covers = omega (arith, opened, t.pass_len, h.pass_covers);
-  close_covers = omega (arith, opened, t.close_len, h.close_covers);
-  want_covers = omega (arith, opened, t.want_len, h.want_covers);
-  live_covers = omega (arith, opened, t.live_len, h.live_covers);
-  still = beside-all IsStill l.to_pass l'.to_pass s' (omega (arith, opened, h.pass_covers)) t.to_pass;
-  settled = beside-all IsSettled l.to_close l'.to_close s' (omega (arith, opened, h.close_covers)) t.to_close;
-  gone = beside-all IsGone l.maybe_open l'.maybe_open s' (omega (arith, opened, h.live_covers)) t.maybe_open;
-}
+  pub kept-each : ((n : ℕ) → n < s'.plain.opened → set.has n ≡ false → SameLink n s s') → IsKept l s → IsKept l' s'
+  kept-each same h = record {
+    pass_covers = omega (arith, opened, t.pass_len, h.pass_covers);
+    close_covers = omega (arith, opened, t.close_len, h.close_covers);
+    want_covers = omega (arith, opened, t.want_len, h.want_covers);
+    live_covers = omega (arith, opened, t.live_len, h.live_covers);
+    still = beside-each IsStill l.to_pass l'.to_pass t.to_pass (λ n lt out p. still-same (same n lt out) p) h.still;
+    settled = beside-each IsSettled l.to_close l'.to_close t.to_close (λ n lt out p. settled-same (same n lt out) p) h.settled;
+    gone = beside-each IsGone l.maybe_open l'.maybe_open t.maybe_open (λ n lt out p. gone-same n s s' (same n lt out) p) h.gone;
+  }
 
--- then nothing is said of a link, and what the table says is right
-pub names-all : (l l' : Agenda) (s s' : State) → s'.plain.opened ≡ s.plain.opened → TouchedAll l l' → IsKept l s → TellsNames l s l' s'
-names-all l l' s s' opened t k = λ table h. record {
-  links = omega (arith, opened, h.links);
-  named = beside-all (IsNamedRight table) l.to_name l'.to_name s' (omega (arith, opened, k.want_covers)) t.to_name;
-}
+  -- where nothing keeps the others from what they would want, the table is right of them
+  pub names-each : ((n : ℕ) → n < s'.plain.opened → set.has n ≡ false → SameLink n s s' × WantsFreely s' n) → TellsNames l s l' s'
+  names-each same = λ table h. record {
+    links = omega (arith, opened, h.links);
+    named = λ n lt out.
+        let both = t.to_name n lt out in
+        let here = same n lt both.0 in
+        (named-same table n s s' here.0 (h.named n (subst (λ m. n < m) opened lt) both.1), here.1);
+  }
 
 -- no link changed
 pub kept-same : (l : Agenda) (s s' : State) → s'.plain.opened ≡ s.plain.opened → ((j : ℕ) → SameLink j s s') → IsKept l s → IsKept l s'
@@ -173,18 +169,6 @@ pub names-same : (l : Agenda) (s s' : State) → s'.plain.opened ≡ s.plain.ope
 names-same l s s' opened same = λ table h. record {
   links = omega (arith, opened, h.links);
   named = λ n lt out. named-same table n s s' (same n) (h.named n (subst (λ m. n < m) opened lt) out);
-}
-
--- Where no groups are set, what may be right is.
-pub named-unset : (l : Agenda) (t : WantsValue) (s : State) → s.settings.groups ≡ [] → MayBeNamed l t s → IsNamed l t s
-named-unset l t s unset h = record { links = h.links; named = λ n lt out. ((h.named n lt out).1 unset).1 }
-
--- And what is right may be, where there are no groups if none are set.
-pub named-may_be : (l : Agenda) (t : WantsValue) (s : State) → (s.settings.groups ≡ [] → s.groups ≡ no_groups) → IsNamed l t s →
-    MayBeNamed l t s
-named-may_be l t s none h = record {
-  links = h.links;
-  named = λ n lt out. let right = h.named n lt out in (right.3, λ unset. (none unset, right));
 }
 
 -- The next link got its places, and was opened or not.
@@ -291,17 +275,27 @@ pub up-next : (P : ℕ → Type 0) (from to : ℕ) → ((k : ℕ) → k < from �
 up-next P from to below between own = λ k lt.
     by_same k to (λ e t. subst P (sym e) own) (λ e t. up-all P from to below between k (omega (arith, lt, e)))
 
-cleared : (b x : Bool) → x ≡ false → (if b then false else x) ≡ false
-cleared true x h = refl
-cleared false x h = h
+-- What is not in the new set was not in the old one, and is below a number only if it is not in the set of which all is looked at.
+abbrev pub IsTouchedTo : NumberSetValue → ℕ → NumberSetValue → NumberSetValue → Type 0
+IsTouchedTo set to old new = (n : ℕ) → new.has n ≡ false → (old.has n ≡ false) × (n < to → set.has n ≡ false)
 
--- a link was taken out of the set, and none before it was in it
-pub untold-next : (set left : NumberSetValue) (from k : ℕ) → ((n : ℕ) → left.has n ≡ (if n == k then false else set.has n)) →
-    IsUntold set 0 from → IsUntold set from k → IsUntold left 0 (k + 1)
-untold-next set left from k has before between = λ n a b.
-    up-next (λ j. left.has j ≡ false) from k (λ j lt. has j ∙ cleared (j == k) (set.has j) (before j (omega arith) lt))
-    (λ j le lt. has j ∙ cleared (j == k) (set.has j) (between j le lt))
-    (has k ∙ ap (λ z. if z then false else set.has k) (eq-eqb k k refl)) n b
+pub touched-none : (set old : NumberSetValue) → IsTouchedTo set 0 old old
+touched-none set old n out = (out, λ lt. absurd (omega (arith, lt)))
+
+pub touched-next : (set old mid new : NumberSetValue) (from k : ℕ) → ((n : ℕ) → new.has n ≡ (if n == k then true else mid.has n)) →
+    IsUntold set from k → IsTouchedTo set from old mid → IsTouchedTo set (k + 1) old new
+touched-next set old mid new from k has between h n out =
+    by_same n k
+    (λ e t. no_false (sym (has n ∙ ap (λ z. if z then true else mid.has n) t) ∙ out))
+    (λ e t.
+    let was = h n (sym (has n ∙ ap (λ z. if z then true else mid.has n) t) ∙ out) in
+    (was.0, λ lt. elim (cases_lt n from) [ inl less ↦ was.1 less | inr more ↦ between n more (omega (arith, lt, e)) ]))
+
+pub touched-all : (set old new : NumberSetValue) (from opened : ℕ) → IsUntold set from opened → IsTouchedTo set from old new → (n : ℕ) →
+    n < opened → new.has n ≡ false → (set.has n ≡ false) × (old.has n ≡ false)
+touched-all set old new from opened rest h n lt out =
+    let was = h n out in
+    (elim (cases_lt n from) [ inl less ↦ was.1 less | inr more ↦ rest n more lt ], was.0)
 
 -- the sets but that of wants stay, and so does what they say
 pub kept-beside_wants : (l l' : Agenda) (s : State) → SameBesideWants l l' → IsKept l s → IsKept l' s
@@ -319,16 +313,12 @@ kept-beside_wants l l' s same h = record {
 pub named-rows : (l : Agenda) (t new : WantsValue) (s : State) → RowsStay t new → MayBeNamed l t s → MayBeNamed l new s
 named-rows l t new s r h = record {
   links = subst (λ n. n ≤ s.plain.opened) (sym r.links) h.links;
-  named = λ k lt out. let before = h.named k lt out in (before.0, λ unset. ((before.1 unset).0, rows (before.1 unset).1));
+  named = λ k lt out. rows (h.named k lt out);
 }
   where
-    says : (t new : WantsValue) (s : State) → RowsStay t new → (e : SideId) → SaysOf t s e → SaysOf new s e
-    says t new s r e x = (ap (λ f. f (number e)) r.reads ∙ x.0, ap (λ f. f (number e)) r.writes ∙ x.1)
+    says : (e : SideId) → WouldSayOf t s e → WouldSayOf new s e
+    says e x = (ap (λ f. f (number e)) r.reads ∙ x.0, ap (λ f. f (number e)) r.writes ∙ x.1)
 
-    rows : {k : ℕ} → IsNamedRight t s k → IsNamedRight new s k
-    rows {k = k} right = (
-      subst (λ n. k < n) (sym r.links) right.0,
-      says t new s r (in_side k) right.1,
-      says t new s r (out_side k) right.2,
-      right.3,
-    )
+    rows : {k : ℕ} → MayBeNamedRight t s k → MayBeNamedRight new s k
+    rows {k = k} right =
+        (subst (λ n. k < n) (sym r.links) right.0, says (in_side k) right.1, says (out_side k) right.2, right.3)

@@ -33,7 +33,7 @@ use Rattle.relay_drive.specs.Asked.{link_changed, link_changed_by, IsAskedElsewh
 use Rattle.relay_drive.specs.Links.{SameLink, has_spent_count_from, has_spent_count}
 use Rattle.relay_drive.proofs.DispatchLemmas.{one-leaves, one-done}
 use Rattle.relay_drive.proofs.MeantFolds.{Each_is}
-use Rattle.relay_drive.proofs.OtherLinks.{same_link, same_link-then, same_link-is, by_parts, by_gauge, parts-side, freed-other, same-waits}
+use Rattle.relay_drive.proofs.OtherLinks.{same_link, same_link-then, same_link-is, by_parts, by_gauges, by_groups, parts-side, freed-other, same-waits}
 use Rattle.relay_drive.proofs.OtherLinks.{raise_read-other, raise_write-other, by_leaving}
 
 -- Links that an ask changes
@@ -41,45 +41,30 @@ use Rattle.relay_drive.proofs.OtherLinks.{raise_read-other, raise_write-other, b
 apart : (k n : ℕ) → ◌≢◌ {A = Option ℕ} (Some n) (Some k) → k ≢ n
 apart k n h = λ p. h (ap Some (sym p))
 
--- where no groups are set, there is none to join
-no_group-known : (n : ℕ) (gs : List GroupSet) → gs ≡ [] → nat_le (length gs) n ≡ false → ⊥
-no_group-known n gs none known =
-    let empty = ap length none in
-    let past : nat_le (length gs) n ≡ true = le-leb (length gs) n (omega (arith, empty)) in
-    absurd (let bad : true ≡ false = sym past ∙ known in cc)
-
 -- An ask that is done leaves every link as it is that it doesn't change.
-pub asked-other : (k : ℕ) (a : Act) (s : State) → names_no_group s.settings a ≡ false → link_changed a ≢ Some k → SameLink k s (asked a s)
-asked-other k (act.Free e) s known h = freed-other k s e (apart k e.link h)
-asked-other k (act.Enable e d) s known h = by_parts k s _ (parts-side k e _ s.plain (apart k e.link h))
-asked-other k (act.Disable e d) s known h = by_parts k s _ (parts-side k e _ s.plain (apart k e.link h))
-asked-other k (act.Marks e d low high) s known h = by_parts k s _ (parts-side k e _ s.plain (apart k e.link h))
-asked-other k (act.Timeouts e r w) s known h = by_parts k s _ (parts-side k e _ s.plain (apart k e.link h))
-asked-other k (act.Rate e cfg) s known h =
+pub asked-other : (k : ℕ) (a : Act) (s : State) → link_changed a ≢ Some k → SameLink k s (asked a s)
+asked-other k (act.Free e) s h = freed-other k s e (apart k e.link h)
+asked-other k (act.Enable e d) s h = by_parts k s _ (parts-side k e _ s.plain (apart k e.link h))
+asked-other k (act.Disable e d) s h = by_parts k s _ (parts-side k e _ s.plain (apart k e.link h))
+asked-other k (act.Marks e d low high) s h = by_parts k s _ (parts-side k e _ s.plain (apart k e.link h))
+asked-other k (act.Timeouts e r w) s h = by_parts k s _ (parts-side k e _ s.plain (apart k e.link h))
+asked-other k (act.Rate e cfg) s h =
     let p : Plain = change_side e (λ x. record x { limit = limit_now s e x.limit cfg }) s.plain in
-    same_link-then k (by_parts k s p (parts-side k e _ s.plain (apart k e.link h))) (by_gauge k (with_plain p s) e _ (apart k e.link h))
-asked-other k (act.Join e n) s known h =
+    same_link-then k (by_parts k s p (parts-side k e _ s.plain (apart k e.link h))) (by_gauges k (with_plain p s) _)
+asked-other k (act.Join e n) s h =
     let p : Plain = change_side e (λ x. record x { group = Some n }) s.plain in
-    same_link-then k
-    (record {
-      settings = refl;
-      side = λ z here. refl;
-      flow = λ z here. refl;
-      lane = λ z here. refl;
-      allowed = λ z here d. refl;
-      groups = λ none. absurd (no_group-known n s.settings.groups none.0 known);
-    })
+    same_link-then k (by_groups k s (joined n (number e) s.groups))
     (by_parts k (record s { groups = joined n (number e) s.groups }) p (parts-side k e _ s.plain (apart k e.link h)))
-asked-other k (act.Leave e) s known h =
+asked-other k (act.Leave e) s h =
     let p : Plain = change_side e (λ x. record x { group = None }) s.plain in
     same_link-then k (by_leaving k s e) (by_parts k (without_group e s) p (parts-side k e _ s.plain (apart k e.link h)))
-asked-other k (act.Trigger e dir.Read) s known h = raise_read-other k s e
-asked-other k (act.Trigger e dir.Write) s known h = raise_write-other k s e
-asked-other k (act.Timer e delay) s known h = same-waits k s _ refl refl refl
-asked-other k (act.Cancel e) s known h = same-waits k s _ refl refl refl
-asked-other k (act.Incref e) s known h = by_parts k s _ (parts-side k e _ s.plain (apart k e.link h))
-asked-other k (act.Decref e) s known h = by_parts k s _ (parts-side k e _ s.plain (apart k e.link h))
-asked-other k act.Stop s known h = same_link k s
+asked-other k (act.Trigger e dir.Read) s h = raise_read-other k s e
+asked-other k (act.Trigger e dir.Write) s h = raise_write-other k s e
+asked-other k (act.Timer e delay) s h = same-waits k s _ refl refl
+asked-other k (act.Cancel e) s h = same-waits k s _ refl refl
+asked-other k (act.Incref e) s h = by_parts k s _ (parts-side k e _ s.plain (apart k e.link h))
+asked-other k (act.Decref e) s h = by_parts k s _ (parts-side k e _ s.plain (apart k e.link h))
+asked-other k act.Stop s h = same_link k s
 
 -- an ask with its answer changes nothing of this link
 abbrev pub IsElsewhere : ℕ → Act → AskAnswer → Type 0
@@ -97,7 +82,7 @@ elsewhere-of k me a ask.TooManyRefs h = tt
 pub ask-other : (k : ℕ) {me : SideId} {a : Act} {r : AskAnswer} {s new : State} {added : Trace} → AsksOne me a r s added new →
     IsElsewhere k a r → SameLink k s new
 ask-other k {a = a} {r = r} {s = s} {new = new} h elsewhere = elim (one-done h) as (λ _. SameLink k s new) [
-  | inl done ↦ subst (SameLink k s) (sym done.1) (asked-other k a s done.2 (subst (IsElsewhere k a) done.0 elsewhere))
+  | inl done ↦ subst (SameLink k s) (sym done.1) (asked-other k a s (subst (IsElsewhere k a) done.0 elsewhere))
   | inr left ↦ same_link-is k left
 ]
 
@@ -145,8 +130,6 @@ left-other k rs s = record {
   side = λ e h. refl;
   flow = λ e h. refl;
   lane = λ e h. refl;
-  allowed = λ e h d. refl;
-  groups = λ h. h.1;
 }
 
 pub dispatching-other : (k : ℕ) (s : State) → SameLink k s (dispatching s)
@@ -155,8 +138,6 @@ dispatching-other k s = record {
   side = λ e h. refl;
   flow = λ e h. refl;
   lane = λ e h. refl;
-  allowed = λ e h d. refl;
-  groups = λ h. h.1;
 }
 
 fire-each : (k : ℕ) {stopped : Bool} {s new : State} {a : Trace} → Fires stopped s a new → Each_is (IsAskedElsewhere k) a → SameLink k s new

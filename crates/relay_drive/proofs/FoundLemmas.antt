@@ -22,7 +22,7 @@ use Rattle.relay_core.specs.declared.close.Closing.{Closing}
 use Rattle.relay_core.specs.declared.close.Closing.TheVariants as closing
 use Rattle.relay_core.specs.Steps as steps
 use Rattle.relay_core.specs.Steps.{steps_of, link_of_step, after_closing}
-use Rattle.relay_drive.specs.Links.{IsGroupless, SameLink, IsStillFrom, IsStill, IsSettled, has_spent_count}
+use Rattle.relay_drive.specs.Links.{SameLink, IsStillFrom, IsStill, IsSettled, would_want, has_spent_count}
 
 -- the same is there to be passed, and a round makes the same of it
 round-same : (k : ℕ) (s new : State) → SameLink k s new → (e : SideId) → e.link ≡ k → round_from new e (passage_at new e) ≡
@@ -43,25 +43,16 @@ passage-same k s new h e here =
     let lane = h.lane e here in
     cc
 
--- where there are no groups, none leaves less to a side
-share-same : {k : ℕ} {s new : State} → SameLink k s new → IsGroupless s → (e : SideId) (d : Dir) → share new e d ≡ share s e d
-share-same h none e d = ap (share_in (number e) d) (h.groups none ∙ sym none.1)
-
--- its sides want the same then
-pub wants-same : {k : ℕ} {s new : State} → SameLink k s new → IsGroupless s → (e : SideId) → e.link ≡ k → (d : Dir) →
-    wants new e d ≡ wants s e d
-wants-same h none e here dir.Read =
+-- its sides would want the same
+pub wants-same : {k : ℕ} {s new : State} → SameLink k s new → (e : SideId) → e.link ≡ k → (d : Dir) → would_want new e d ≡ would_want s e d
+wants-same h e here dir.Read =
     let own = h.side e here in
     let far = h.side (peer e) here in
     let lane = h.lane e here in
-    let allowed = h.allowed e here dir.Read in
-    let shared = share-same h none e dir.Read in
     cc
-wants-same h none e here dir.Write =
+wants-same h e here dir.Write =
     let own = h.side e here in
     let lane = h.lane (peer e) here in
-    let allowed = h.allowed e here dir.Write in
-    let shared = share-same h none e dir.Write in
     cc
 
 -- a side of it lives as before

@@ -37,3 +37,5 @@ pub mod AgendaLemmas
 pub mod FewLemmas
 pub mod TableLemmas
 pub mod ListedLemmas
+pub mod BegunLemmas
+pub mod WantLemmas

@@ -64,8 +64,6 @@ same_link k s = record {
   side = λ e h. refl;
   flow = λ e h. refl;
   lane = λ e h. refl;
-  allowed = λ e h d. refl;
-  groups = λ h. h.1;
 }
 
 pub same_link-then : (k : ℕ) {s mid new : State} → SameLink k s mid → SameLink k mid new → SameLink k s new
@@ -74,8 +72,6 @@ same_link-then k a b = record {
   side = λ e h. b.side e h ∙ a.side e h;
   flow = λ e h. b.flow e h ∙ a.flow e h;
   lane = λ e h. b.lane e h ∙ a.lane e h;
-  allowed = λ e h d. b.allowed e h d ∙ a.allowed e h d;
-  groups = λ h. b.groups (ap (λ (g : Settings). g.groups) a.settings ∙ h.0, a.groups h);
 }
 
 pub same_link-is : (k : ℕ) {s new : State} → new ≡ s → SameLink k s new
@@ -87,37 +83,25 @@ same_link-is k {s = s} h = subst (SameLink k s) (sym h) (same_link k s)
 numbers-apart : (k : ℕ) (e z : SideId) → k ≢ e.link → z.link ≡ k → number z ≢ number e
 numbers-apart k e z other here same = omega (arith, same, here, other, half-below e.side, half-below z.side)
 
--- what the limit of a side leaves, by its limit, its bucket and the time
-abbrev left_by : Option Standing → Gauge → Dir → ℕ → Option ℕ
-left_by limit x d time = option_map (λ y. held_at y.cfg x d time) limit
-
--- it is as it was where they are
-left-same : (s new : State) (e : SideId) (d : Dir) → side_at new.plain e ≡ side_at s.plain e → gauge_at new e ≡ gauge_at s e →
-    new.plain.time ≡ s.plain.time → allowance new e d ≡ allowance s e d
-left-same s new e d side gauge time = λ i. left_by (side i).limit (gauge i) d (time i)
-
--- the sides and directions of this link are as they were, and the time
+-- the sides and directions of this link are as they were
 pub record SameParts (k : ℕ) (p new : Plain) : Type 0 where
-  pub time : new.time ≡ p.time
   pub side : (e : SideId) → e.link ≡ k → side_at new e ≡ side_at p e
   pub flow : (e : SideId) → e.link ≡ k → flow_at new e ≡ flow_at p e
 
 pub parts-same : (k : ℕ) (p : Plain) → SameParts k p p
-parts-same k p = record { time = refl; side = λ e h. refl; flow = λ e h. refl }
+parts-same k p = record { side = λ e h. refl; flow = λ e h. refl }
 
 parts-then : (k : ℕ) {p mid new : Plain} → SameParts k p mid → SameParts k mid new → SameParts k p new
-parts-then k a b = record { time = b.time ∙ a.time; side = λ e h. b.side e h ∙ a.side e h; flow = λ e h. b.flow e h ∙ a.flow e h }
+parts-then k a b = record { side = λ e h. b.side e h ∙ a.side e h; flow = λ e h. b.flow e h ∙ a.flow e h }
 
 pub parts-side : (k : ℕ) (e : SideId) (x : PlainSide) (p : Plain) → k ≢ e.link → SameParts k p (put_side e x p)
 parts-side k e x p other = record {
-  time = refl;
   side = λ z h. get_or-set_other p.sides (number e) (number z) x no_side (numbers-apart k e z other h);
   flow = λ z h. refl;
 }
 
 parts-flow : (k : ℕ) (e : SideId) (x : Flow) (p : Plain) → k ≢ e.link → SameParts k p (put_flow e x p)
 parts-flow k e x p other = record {
-  time = refl;
   side = λ z h. refl;
   flow = λ z h. get_or-set_other p.flows (number e) (number z) x no_flow (numbers-apart k e z other h);
 }
@@ -126,7 +110,7 @@ parts-raise : (k : ℕ) (g : Settings) (e : SideId) (y : Why) {p new : Plain} �
 parts-raise k g e y {p = p} {new = new} h = go (has_hook g e && is_live new e)
   where
     go : (b : Bool) → SameParts k p (if b then record new { due = with_reason e y new.due } else new)
-    go true = record { time = h.time; side = h.side; flow = h.flow }
+    go true = record { side = h.side; flow = h.flow }
     go false = h
 
 pub by_parts : (k : ℕ) (s : State) (p : Plain) → SameParts k s.plain p → SameLink k s (with_plain p s)
@@ -135,8 +119,6 @@ by_parts k s p h = record {
   side = h.side;
   flow = h.flow;
   lane = λ e z. refl;
-  allowed = λ e z d. left-same s (with_plain p s) e d (h.side e z) refl h.time;
-  groups = λ z. z.1;
 }
 
 pub by_lane : (k : ℕ) (s : State) (e : SideId) (l : Lane) → k ≢ e.link → SameLink k s (with_lane e l s)
@@ -145,41 +127,14 @@ by_lane k s e l other = record {
   side = λ z h. refl;
   flow = λ z h. refl;
   lane = λ z h. get_or-set_other s.lanes (number e) (number z) l no_lane (numbers-apart k e z other h);
-  allowed = λ z h d. refl;
-  groups = λ h. h.1;
 }
 
--- the bucket of a side of another link was replaced
-pub by_gauge : (k : ℕ) (s : State) (e : SideId) (x : Gauge) → k ≢ e.link →
-    SameLink k s (record s { gauges = slice_set s.gauges (number e) x })
-by_gauge k s e x other = record {
-  settings = refl;
-  side = λ z h. refl;
-  flow = λ z h. refl;
-  lane = λ z h. refl;
-  allowed = λ z h d.
-      left-same s (record s { gauges = slice_set s.gauges (number e) x }) z d refl
-      (get_or-set_other s.gauges (number e) (number z) x no_gauge (numbers-apart k e z other h)) refl;
-  groups = λ h. h.1;
-}
+-- buckets belong to no link, nor do groups
+pub by_gauges : (k : ℕ) (s : State) (xs : List Gauge) → SameLink k s (record s { gauges = xs })
+by_gauges k s xs = record { settings = refl; side = λ z h. refl; flow = λ z h. refl; lane = λ z h. refl }
 
--- the groups were replaced, and where there were none there are none
-pub by_groups : (k : ℕ) (s : State) (x : GroupsValue) → (s.groups ≡ no_groups → x ≡ no_groups) → SameLink k s (record s { groups = x })
-by_groups k s x none = record {
-  settings = refl;
-  side = λ e h. refl;
-  flow = λ e h. refl;
-  lane = λ e h. refl;
-  allowed = λ e h d. refl;
-  groups = λ h. none h.1;
-}
-
--- who is in no group spends nothing of one, and leaves none
-spent-none : (n m : ℕ) (d : Dir) (x : GroupsValue) → x ≡ no_groups → spent n d m x ≡ no_groups
-spent-none n m d x h = ap (spent n d m) h
-
-left-none : (n : ℕ) (x : GroupsValue) → x ≡ no_groups → left n x ≡ no_groups
-left-none n x h = ap (left n) h
+pub by_groups : (k : ℕ) (s : State) (x : GroupsValue) → SameLink k s (record s { groups = x })
+by_groups k s x = record { settings = refl; side = λ e h. refl; flow = λ e h. refl; lane = λ e h. refl }
 
 -- what is left to fire belongs to no link
 pub by_batch : (k : ℕ) (s : State) (e : SideId) → SameLink k s (without_batch e s)
@@ -188,13 +143,11 @@ by_batch k s e = record {
   side = λ z h. refl;
   flow = λ z h. refl;
   lane = λ z h. refl;
-  allowed = λ z h d. refl;
-  groups = λ h. h.1;
 }
 
 -- nor who is in a group: a side left its own
 pub by_leaving : (k : ℕ) (s : State) (e : SideId) → SameLink k s (without_group e s)
-by_leaving k s e = by_groups k s (left (number e) s.groups) (left-none (number e) s.groups)
+by_leaving k s e = by_groups k s (left (number e) s.groups)
 
 -- Passing
 
@@ -251,9 +204,8 @@ got-other k s e bytes other =
     let before : SameLink k s put = same_link-then k (by_parts k s p (parts-side k e _ s.plain other))
     (by_lane k (with_plain p s) e _ other) in
     let gauges = gauges_after e dir.Read (length bytes) s in
-    let gauged : SameLink k s (record put { gauges = gauges }) = same_link-then k before (by_gauge k put e _ other) in
-    let got : SameLink k s (with_got s e bytes) = same_link-then k gauged
-    (by_groups k (record put { gauges = gauges }) _ (spent-none (number e) (length bytes) dir.Read s.groups)) in
+    let gauged : SameLink k s (record put { gauges = gauges }) = same_link-then k before (by_gauges k put gauges) in
+    let got : SameLink k s (with_got s e bytes) = same_link-then k gauged (by_groups k (record put { gauges = gauges }) _) in
     same_link-then k got
     (same_link-then k (passage-other k (with_got s e bytes) e _ other) (raise_read-other k (read_run e (with_got s e bytes)) e))
 
@@ -273,9 +225,8 @@ took-other k s e n other =
     let put : State = with_lane (peer e) (lane_taken n (lane_at s (peer e))) (with_plain q s) in
     let before : SameLink k s put = same_link-then k (by_parts k s q both) (by_lane k (with_plain q s) (peer e) _ other) in
     let gauges = gauges_after e dir.Write n s in
-    let gauged : SameLink k s (record put { gauges = gauges }) = same_link-then k before (by_gauge k put e _ other) in
-    let taken : SameLink k s (with_taken s e n) = same_link-then k gauged
-    (by_groups k (record put { gauges = gauges }) _ (spent-none (number e) n dir.Write s.groups)) in
+    let gauged : SameLink k s (record put { gauges = gauges }) = same_link-then k before (by_gauges k put gauges) in
+    let taken : SameLink k s (with_taken s e n) = same_link-then k gauged (by_groups k (record put { gauges = gauges }) _) in
     same_link-then k taken (raise_write-other k (with_taken s e n) e)
 
 write-other : (k : ℕ) (s : State) (e : SideId) (answer : WriteAnswer) → k ≢ e.link → SameLink k s (after_write s e answer)
@@ -322,7 +273,7 @@ pub freed-other : (k : ℕ) (s : State) (e : SideId) → k ≢ e.link → SameLi
 freed-other k s e other =
     let r : State = without_group e (without_batch e s) in
     let p : Plain = plain.freed e s.plain in
-    let side : SameParts k s.plain p = record { time = refl; side = (parts-side k e _ s.plain other).side; flow = λ z h. refl } in
+    let side : SameParts k s.plain p = record { side = (parts-side k e _ s.plain other).side; flow = λ z h. refl } in
     let own : State = with_lane e (lane_left (lane_at s e)) (with_plain p r) in
     let first : SameLink k r own = same_link-then k (by_parts k r p side) (by_lane k (with_plain p r) e _ other) in
     same_link-then k (same_link-then k (by_batch k s e) (by_leaving k (without_batch e s) e))
@@ -375,69 +326,12 @@ opens-other k s new a h pairs below =
       side = λ e here. kept-place k n s.plain.sides _ no_side e pairs.sides below here;
       flow = λ e here. kept-place k n s.plain.flows _ no_flow e pairs.flows below here;
       lane = λ e here. kept-place k n s.lanes _ no_lane e pairs.lanes below here;
-      allowed = λ e here d.
-          left-same s new e d (kept-place k n s.plain.sides _ no_side e pairs.sides below here)
-          (kept-place k n s.gauges _ no_gauge e pairs.gauges below here) refl;
-      groups = λ z.
-          let joins = pairs.joins z.0 in
-          (λ i. joined_where (joins.1 i) (out_side n) (joined_where (joins.0 i) (in_side n) s.groups)) ∙ z.1;
     })
 
--- A turn begins
-
--- the time and the number of turns belong to no link, where no bucket is refilled as time goes on
-pub turned-same : (k ms : ℕ) (s : State) → HasNoRates s → SameLink k s (with_plain (turned_to ms s.plain) s)
-turned-same k ms s none = record {
-  settings = refl;
-  side = λ e h. refl;
-  flow = λ e h. refl;
-  lane = λ e h. refl;
-  allowed = λ e h d.
-      ap (λ limit. left_by limit (gauge_at s e) d ms) (none.limits e)
-      ∙ sym (ap (λ limit. left_by limit (gauge_at s e) d s.plain.time) (none.limits e));
-  groups = λ h. h.1;
-}
-
 -- timers and due reasons belong to no link
-pub same-waits : (k : ℕ) (s : State) (p : Plain) → p.time ≡ s.plain.time → p.sides ≡ s.plain.sides → p.flows ≡ s.plain.flows →
-    SameLink k s (with_plain p s)
-same-waits k s p time sides flows =
+pub same-waits : (k : ℕ) (s : State) (p : Plain) → p.sides ≡ s.plain.sides → p.flows ≡ s.plain.flows → SameLink k s (with_plain p s)
+same-waits k s p sides flows =
     by_parts k s p (record {
-      time = time;
       side = λ e h. ap (λ xs. slice_index_or xs (number e) no_side) sides;
       flow = λ e h. ap (λ xs. slice_index_or xs (number e) no_flow) flows;
     })
-
--- what a plain state keeps while timers are taken
-record SameRest (p new : Plain) : Type 0 where
-  time : new.time ≡ p.time
-  sides : new.sides ≡ p.sides
-  flows : new.flows ≡ p.flows
-
-taken-rest : (g : Settings) (p : Plain) → SameRest p (timers_taken g p)
-taken-rest g p =
-    let h = go (record p { timers = filter (λ x. nat_lt p.time x.deadline) p.timers }) (filter (λ x. nat_le x.deadline p.time) p.timers) in
-    record { time = h.time; sides = h.sides; flows = h.flows }
-  where
-    raised : (z : Plain) (x : Timer) → SameRest z (raise g x.side why.Timer z)
-    raised z x = by_hook (has_hook g x.side && is_live z x.side)
-      where
-        by_hook : (b : Bool) → SameRest z (if b then record z { due = with_reason x.side why.Timer z.due } else z)
-        by_hook true = record { time = refl; sides = refl; flows = refl }
-        by_hook false = record { time = refl; sides = refl; flows = refl }
-
-    go : (z : Plain) (xs : List Timer) → SameRest z (fold (λ y x. raise g x.side why.Timer y) z xs)
-    go z [] = record { time = refl; sides = refl; flows = refl }
-    go z (x ∷ xs) =
-        let a = raised z x in
-        let b = go (raise g x.side why.Timer z) xs in
-        record { time = b.time ∙ a.time; sides = b.sides ∙ a.sides; flows = b.flows ∙ a.flows }
-
--- nor do the timers that are taken as it begins
-pub taken-same : (k ms : ℕ) (s : State) → HasNoRates s →
-    SameLink k s (with_plain (timers_taken s.settings (turned_to ms s.plain)) s)
-taken-same k ms s none =
-    let turned : State = with_plain (turned_to ms s.plain) s in
-    let rest = taken-rest s.settings (turned_to ms s.plain) in
-    same_link-then k (turned-same k ms s none)
-    (same-waits k turned (timers_taken s.settings (turned_to ms s.plain)) rest.time rest.sides rest.flows)

@@ -1,18 +1,17 @@
 -- What a drive keeps of its links from turn to turn: at which of them passing and closing have something to do, which are open, and
 -- of which sides the table of wants must be looked at. A set may hold too much, and never too little.
-use Rattle.std.specs.Prelude.{◌≡◌, ◌≢◌, ℕ, ◌*◌, ◌<◌, ◌≤◌, Bool, true, false, ◌==◌, if◌then◌else◌, []}
+use Rattle.std.specs.Prelude.{◌≡◌, ℕ, ◌<◌, ◌≤◌, Bool, true, false, ◌==◌, if◌then◌else◌}
 use Rattle.token_bucket.specs.declared.limit.Dir.TheVariants as dir
 use Rattle.ev_types.specs.declared.side.SideId.{SideId}
 use Rattle.ev_types.specs.Sides.{number}
 use Rattle.ev_port.specs.Table.{WantsValue}
 use Rattle.number_set.specs.Numbers.{NumberSetValue}
-use Rattle.rate_group.specs.GroupsCalls.{no_groups}
 use Rattle.relay_state.specs.State.{State}
 use Rattle.relay_state.specs.Rooms.{wants}
 use Rattle.relay_state.specs.Counting.{is_open}
 use Rattle.relay_state.specs.Closing.{in_side, out_side}
 use Rattle.relay_drive.specs.declared.agenda.Agenda.{Agenda}
-use Rattle.relay_drive.specs.Links.{IsStill, IsSettled, has_spent_count}
+use Rattle.relay_drive.specs.Links.{IsStill, IsSettled, WantsFreely, would_want, has_spent_count}
 
 -- what is so of each opened link that is not in a set
 abbrev pub HoldsBeside : NumberSetValue → (State → ℕ → Type 0) → State → Type 0
@@ -40,23 +39,27 @@ pub record IsKept (l : Agenda) (s : State) : Type 0 where
   pub settled : HoldsBeside l.to_close IsSettled s
   pub gone : HoldsBeside l.maybe_open IsGone s
 
--- the table says of this side what it wants
+-- the table says of this side what it wants, and what it would want
 abbrev pub SaysOf : WantsValue → State → SideId → Type 0
 SaysOf t s e = (t.reads (number e) ≡ wants s e dir.Read) × (t.writes (number e) ≡ wants s e dir.Write)
 
--- the table has this link, says what its sides want, and no count of it has come far
+abbrev pub WouldSayOf : WantsValue → State → SideId → Type 0
+WouldSayOf t s e = (t.reads (number e) ≡ would_want s e dir.Read) × (t.writes (number e) ≡ would_want s e dir.Write)
+
+-- The table has this link, says what its sides would want, and no count of it has come far. While a turn goes on a limit or a group may
+-- keep them from that.
+abbrev pub MayBeNamedRight : WantsValue → State → ℕ → Type 0
+MayBeNamedRight t s k =
+    (k < t.links) × WouldSayOf t s (in_side k) × WouldSayOf t s (out_side k) × LinkCountsAreFew s k
+
+-- and nothing does
 abbrev pub IsNamedRight : WantsValue → State → ℕ → Type 0
-IsNamedRight t s k = (k < t.links) × SaysOf t s (in_side k) × SaysOf t s (out_side k) × (has_spent_count s k ≡ false)
+IsNamedRight t s k = MayBeNamedRight t s k × WantsFreely s k
 
 -- so it is for each link that is not to be looked at
 pub record IsNamed (l : Agenda) (t : WantsValue) (s : State) : Type 0 where
   pub links : t.links ≤ s.plain.opened
   pub named : HoldsBeside l.to_name (IsNamedRight t) s
-
--- No count of this link has come far; and where no groups are set there are none, and the table is right of it. With groups, what is
--- done at other links may change what its sides want.
-abbrev pub MayBeNamedRight : WantsValue → State → ℕ → Type 0
-MayBeNamedRight t s k = LinkCountsAreFew s k × (s.settings.groups ≡ [] → (s.groups ≡ no_groups) × IsNamedRight t s k)
 
 -- so it is for each link that is not to be looked at, while a turn goes on
 pub record MayBeNamed (l : Agenda) (t : WantsValue) (s : State) : Type 0 where
@@ -107,44 +110,27 @@ pub record IsCovered (k : ℕ) (old new : Agenda) : Type 0 where
   pub to_name : Covers k old.to_name new.to_name
   pub maybe_open : Covers k old.maybe_open new.maybe_open
 
--- all links with a place are in all sets
-pub record TouchedAll (old new : Agenda) : Type 0 where
+-- The opened links that are in a set are in all sets, and whatever was in one is in it.
+pub record TouchedEach (set : NumberSetValue) (opened : ℕ) (old new : Agenda) : Type 0 where
   pub pass_len : new.to_pass.len ≡ old.to_pass.len
   pub close_len : new.to_close.len ≡ old.to_close.len
   pub want_len : new.to_name.len ≡ old.to_name.len
   pub live_len : new.maybe_open.len ≡ old.maybe_open.len
-  pub to_pass : (n : ℕ) → n < old.to_pass.len → new.to_pass.has n ≡ true
-  pub to_close : (n : ℕ) → n < old.to_close.len → new.to_close.has n ≡ true
-  pub to_name : (n : ℕ) → n < old.to_name.len → new.to_name.has n ≡ true
-  pub maybe_open : (n : ℕ) → n < old.maybe_open.len → new.maybe_open.has n ≡ true
+  pub to_pass : (n : ℕ) → n < opened → new.to_pass.has n ≡ false → (set.has n ≡ false) × (old.to_pass.has n ≡ false)
+  pub to_close : (n : ℕ) → n < opened → new.to_close.has n ≡ false → (set.has n ≡ false) × (old.to_close.has n ≡ false)
+  pub to_name : (n : ℕ) → n < opened → new.to_name.has n ≡ false → (set.has n ≡ false) × (old.to_name.has n ≡ false)
+  pub maybe_open : (n : ℕ) → n < opened → new.maybe_open.has n ≡ false → (set.has n ≡ false) × (old.maybe_open.has n ≡ false)
 
 -- only the set of wants to be looked at may have changed, and it is as long
 abbrev pub SameBesideWants : Agenda → Agenda → Type 0
 SameBesideWants old new = (new.to_pass ≡ old.to_pass) × (new.to_close ≡ old.to_close) × (new.maybe_open ≡ old.maybe_open) ×
     (new.to_name.len ≡ old.to_name.len)
 
--- Of one side the table says what it wants, and of every other one what it said.
-pub record NamedSide (s : State) (e : SideId) (old new : WantsValue) : Type 0 where
-  pub links : new.links ≡ old.links
-  pub own : SaysOf new s e
-  pub others : (n : ℕ) → n ≢ number e → (new.reads n ≡ old.reads n) × (new.writes n ≡ old.writes n)
-
--- of both sides of a link
-pub record NamedLink (s : State) (k : ℕ) (old new : WantsValue) : Type 0 where
-  pub links : new.links ≡ old.links
-  pub near : SaysOf new s (in_side k)
-  pub far : SaysOf new s (out_side k)
-  pub others : (e : SideId) → e.link ≢ k → (new.reads (number e) ≡ old.reads (number e)) × (new.writes (number e) ≡ old.writes (number e))
-
--- the table is no shorter, and says what it said of each link that it had
-pub record OldRowsStay (old new : WantsValue) : Type 0 where
-  pub links : old.links ≤ new.links
-  pub rows : (n : ℕ) → n < 2 * old.links → (new.reads n ≡ old.reads n) × (new.writes n ≡ old.writes n)
-
 -- What was kept is kept, of every table too: from a state and the sets that stood for it to another state and its sets.
 abbrev pub KeepsNames : Agenda → State → Agenda → State → Type 0
 KeepsNames old s new s' = (t : WantsValue) → MayBeNamed old t s → MayBeNamed new t s'
 
--- As a turn begins, what may be right is right, of every table: where there are groups, all links are to be looked at then.
+-- As a turn begins, what may be right is right, of every table: a link that a limit or a group may keep from what it would want is to be
+-- looked at then.
 abbrev pub TellsNames : Agenda → State → Agenda → State → Type 0
 TellsNames old s new s' = (t : WantsValue) → MayBeNamed old t s → IsNamed new t s'

@@ -1,34 +1,30 @@
 -- What of the state belongs to one link, and when a link has nothing to be done. A step of a turn changes what belongs to one link
 -- alone, so that what was found of another one is still so.
-use Rattle.std.specs.Prelude.{◌≡◌, ℕ, [], false, is_some}
+use Rattle.std.specs.Prelude.{◌≡◌, ℕ, ◌-◌, Bool, ◌&&◌, ◌||◌, not, nat_le, if◌then◌else◌, min, length, false, is_some}
 use Rattle.std.specs.List.{All}
 use Rattle.token_bucket.specs.declared.limit.Dir.{Dir}
-use Rattle.rate_group.specs.GroupsCalls.{no_groups}
+use Rattle.token_bucket.specs.declared.limit.Dir.TheVariants as dir
 use Rattle.ev_types.specs.declared.side.SideId.{SideId}
 use Rattle.relay_model.specs.Plain.{side_at, flow_at}
+use Rattle.relay_model.specs.Rooms.{most_at_once, read_mark, may_read, may_write, is_connecting}
 use Rattle.relay_core.specs.declared.close.Closing.{Closing}
 pub use Rattle.relay_state.specs.Spent.{has_spent_count_from, has_spent_count}
 pub use Rattle.relay_core.specs.Pairs.{HasPairs}
+use Rattle.relay_core.specs.Timeless.{IsTimelessSide}
 use Rattle.relay_core.specs.Steps as steps
 use Rattle.relay_core.specs.Steps.{steps_of}
 use Rattle.relay_state.specs.State.{State, lane_at}
-use Rattle.relay_state.specs.Rooms.{allowance}
+use Rattle.relay_state.specs.Rooms.{wants, input_length, waiting_for}
 use Rattle.relay_state.specs.Passing.{passage_at, round_from}
 use Rattle.relay_state.specs.Closing.{in_side, out_side, closing_entry}
 
--- there are no groups
-abbrev pub IsGroupless : State → Type 0
-IsGroupless s = (s.settings.groups ≡ []) × (s.groups ≡ no_groups)
-
--- What belongs to this link is as it was, and the settings: also what the limits of its sides leave them to move. Where there were no
--- groups there are none. What groups leave to move is not kept: what is done at another link may change that.
+-- What belongs to this link is as it was, and the settings. What limits and groups leave its sides to move is not kept: time changes that,
+-- and what is done at another link.
 pub record SameLink (k : ℕ) (s new : State) : Type 0 where
   pub settings : new.settings ≡ s.settings
   pub side : (e : SideId) → e.link ≡ k → side_at new.plain e ≡ side_at s.plain e
   pub flow : (e : SideId) → e.link ≡ k → flow_at new.plain e ≡ flow_at s.plain e
   pub lane : (e : SideId) → e.link ≡ k → lane_at new e ≡ lane_at s e
-  pub allowed : (e : SideId) → e.link ≡ k → (d : Dir) → allowance new e d ≡ allowance s e d
-  pub groups : IsGroupless s → new.groups ≡ no_groups
 
 -- a round of the direction that begins at this side changes nothing
 abbrev pub IsStillFrom : State → SideId → Type 0
@@ -45,3 +41,19 @@ IsUncalled s step = is_some (closing_entry s (steps.close_step step)) ≡ false
 -- closing has nothing to do at this link
 abbrev pub IsSettled : State → ℕ → Type 0
 IsSettled s k = All (IsUncalled s) (steps_of k)
+
+-- What a side would want if neither its limit nor its group kept it from moving bytes.
+abbrev pub would_want : State → SideId → Dir → Bool
+would_want s e dir.Read =
+    nat_le 1 (if may_read s.plain e then min most_at_once (read_mark s.plain e - input_length s e) else 0)
+would_want s e dir.Write =
+    nat_le 1 (if may_write s.plain e then min most_at_once (length (waiting_for s e)) else 0)
+    || (is_connecting s.plain e && not (side_at s.plain e).failed)
+
+-- nothing keeps the sides of this link from what they would want
+abbrev pub WantsFreely : State → ℕ → Type 0
+WantsFreely s k = (e : SideId) → e.link ≡ k → (d : Dir) → wants s e d ≡ would_want s e d
+
+-- the sides of this link wait for no moment
+abbrev pub IsTimelessLink : State → ℕ → Type 0
+IsTimelessLink s k = (e : SideId) → e.link ≡ k → IsTimelessSide s e

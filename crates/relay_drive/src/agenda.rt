@@ -1,7 +1,7 @@
 // At which links a turn has something to look at. A link at which nothing was found to do is left alone until something changes there, so
 // that it costs a turn nothing.
 ghost use Rattle.std.specs.Prelude.{◌≡◌, ◌<◌, ◌≤◌, true, false, MatchOption, OnOk};
-ghost use Rattle.relay_drive.specs.Agenda.{Touched, TouchedAll, Covers, IsCovered, IsUntold};
+ghost use Rattle.relay_drive.specs.Agenda.{Touched, TouchedEach, Covers, IsCovered, IsUntold};
 ghost use Rattle.relay_drive.specs.Moves.{OnlyForMemory};
 
 use crate::fault::DriveFault;
@@ -9,8 +9,9 @@ use number_set::NumberSet;
 use std::alloc::Global;
 
 /// The links at which passing and closing may have something to do, those that may have a live side, and those of which the table of wants
-/// may not be right. A link that isn't in a set was looked at, and nothing changed there since. Where there are groups, what other links
-/// move may have changed what its sides want; then all links are in all sets as a turn begins.
+/// may not be right. A link that isn't in a set was looked at, and nothing changed there since, but for what its limits and groups leave
+/// its sides to move: the links of sides that these may keep from moving bytes are watched by the relay, and are in all sets as a turn
+/// begins.
 #[derive(Drop)]
 pub(crate) struct Agenda {
     pub(crate) to_pass: NumberSet,
@@ -93,13 +94,19 @@ impl Agenda {
         self.maybe_open.insert(link as usize);
     }
 
-    /// Something may have changed at every link. Takes no memory; linear in the number of links.
-    pub(crate) fn touch_all(&mut self)
-        ensures { TouchedAll self.old self.new }
+    /// Something may have changed at each opened link of a set. Takes no memory; linear in the links of the set, and it looks at a word
+    /// for each 64 links.
+    pub(crate) fn touch_each(&mut self, set: &NumberSet, opened: u32)
+        requires pass { opened ≤ self.old.to_pass.len }
+        requires close { opened ≤ self.old.to_close.len }
+        requires want { opened ≤ self.old.to_name.len }
+        requires live { opened ≤ self.old.maybe_open.len }
+        ensures { TouchedEach set.now opened self.old self.new }
     {
-        self.to_pass.fill();
-        self.to_close.fill();
-        self.to_name.fill();
-        self.maybe_open.fill();
+        let mut from = 0;
+        while let Some(link) = next_link(set, from, opened) {
+            self.touch(link);
+            from = link + 1;
+        }
     }
 }

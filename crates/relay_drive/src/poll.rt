@@ -6,7 +6,8 @@ ghost use Rattle.ev_port.specs.Polling.{ready_events};
 ghost use Rattle.ev_port.specs.Table.{named, RowsStay};
 ghost use Rattle.relay_drive.specs.Phases.{wanted, CutPoll, CutPolling, AllOpened};
 ghost use Rattle.relay_drive.specs.Known.{Point, begun_if};
-ghost use Rattle.relay_drive.specs.Agenda.{IsKept, IsNamed, MayBeNamed, CountsAreFew, NamedSide, NamedLink, OldRowsStay, SameBesideWants};
+ghost use Rattle.relay_drive.specs.Agenda.{IsKept, IsNamed, MayBeNamed, CountsAreFew, SameBesideWants};
+ghost use Rattle.relay_drive.specs.Naming.{NamedSide, NamedLink, OldRowsStay};
 ghost use Rattle.relay_drive.specs.PollPhase.{PollsListed, PollsAndAcceptsListed};
 ghost use Rattle.relay_drive.specs.Moves.{Moves, GetsTo, OnlyForMemory};
 
@@ -54,7 +55,8 @@ fn lengthen(relay: &Relay, wants: &mut WantTable) -> Result<(), DriveFault>
     Ok(())
 }
 
-/// The table says what the sides want. Only the links are looked at of which it may not be right.
+/// The table says what the sides want. Only the links are looked at of which it may not be right. One whose sides a limit or a group may
+/// keep from what they would want is looked at again.
 fn name_wants(relay: &Relay, agenda: &mut Agenda, wants: &mut WantTable) -> Result<(), DriveFault>
     requires named { IsNamed agenda.old wants.old relay.now.state }
     requires few { CountsAreFew relay.now.state }
@@ -67,7 +69,8 @@ fn name_wants(relay: &Relay, agenda: &mut Agenda, wants: &mut WantTable) -> Resu
     let mut from = 0;
     while let Some(link) = next_link(&agenda.to_name, from, relay.opened()) {
         name_link(relay, wants, link);
-        agenda.to_name.remove(link as usize);
+        let again = relay.watched().contains(link as usize);
+        agenda.to_name.put(link as usize, again);
         from = link + 1;
     }
     Ok(())

@@ -1,12 +1,12 @@
 // One turn: its phases in their order. What time brings is done as the relay begins the turn.
-ghost use Rattle.std.specs.Prelude.{◌≡◌, ℕ, ◌<◌, ◌^◌, ◌||◌, true, false, [], nat_le, length, Ok, Err, MatchResult, OnOk};
+ghost use Rattle.std.specs.Prelude.{◌≡◌, ℕ, ◌<◌, ◌^◌, ◌||◌, true, false, nat_le, length, Ok, Err, MatchResult, OnOk};
 ghost use Rattle.relay_state.specs.Counting.{is_spent};
 ghost use Rattle.relay_drive.specs.declared.fault.DriveFault.TheVariants.{Spent};
 ghost use Rattle.relay_drive.specs.declared.fault.TurnEnd.TheVariants.{Went};
 ghost use Rattle.relay_drive.specs.Steps.{Nothing};
 ghost use Rattle.relay_drive.specs.Phases.{TicksOnce, ServedThen, CutStart, PassesAndCloses, CutFinish};
 ghost use Rattle.relay_drive.specs.Known.{Point};
-ghost use Rattle.relay_drive.specs.Links.{SameLink};
+ghost use Rattle.relay_drive.specs.Links.{SameLink, IsTimelessLink};
 ghost use Rattle.relay_drive.specs.Agenda.{HoldsBeside, LinkCountsAreFew, CountsAreFew, IsKept, MayBeNamed, KeepsNames, TellsNames};
 ghost use Rattle.relay_drive.specs.DriveView.{IsReady};
 ghost use Rattle.relay_drive.specs.Seats.{telling, AreSeated};
@@ -41,9 +41,7 @@ fn read_clock<P: Port, S: Scribe>(
         (λ _. Moves P.Port S.Scribe Point.Between Point.Between false Nothing
         (run.old, port.old, scribe.old) (run.new, port.new, scribe.new)) }
     ensures opened { OnOk result (run.new.relay.state.plain.opened ≡ run.old.relay.state.plain.opened) }
-    ensures untimed { OnOk result (run.new.relay.untimed ≡ run.old.relay.untimed) }
-    ensures still { OnOk result (run.old.relay.untimed ≡ true → (k : ℕ) → SameLink k run.old.relay.state run.new.relay.state) }
-    ensures groups { OnOk result (run.old.relay.untimed ≡ true → run.old.relay.state.settings.groups ≡ []) }
+    ensures still { OnOk result ((k : ℕ) → IsTimelessLink run.new.relay.state k → SameLink k run.old.relay.state run.new.relay.state) }
     ensures few { OnOk result (CountsAreFew run.old.relay.state → CountsAreFew run.new.relay.state) }
     ensures cause { OnlyForMemory result }
 {
@@ -53,7 +51,8 @@ fn read_clock<P: Port, S: Scribe>(
     Ok(())
 }
 
-/// Reads the port's clock once. Where a side may have a timeout or a limit, or there are groups, every link is to be looked at then.
+/// Reads the port's clock once. Every link is to be looked at then at which a side waits for a moment: for its timeout, or since its limit
+/// or its group may keep it from moving bytes.
 fn clock<P: Port, S: Scribe>(
     run: &mut Run,
     agenda: &mut Agenda,
@@ -73,9 +72,9 @@ fn clock<P: Port, S: Scribe>(
     ensures few { OnOk result (CountsAreFew run.old.relay.state → CountsAreFew run.new.relay.state) }
 {
     read_clock(run, port, scribe)?;
-    if !run.relay.is_untimed() {
-        agenda.touch_all();
-    }
+    let opened = run.relay.opened();
+    agenda.touch_each(run.relay.watched(), opened);
+    run.relay.forget_timeless();
     Ok(())
 }
 

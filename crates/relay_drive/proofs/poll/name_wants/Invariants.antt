@@ -1,5 +1,6 @@
-use Rattle.std.proofs.Common.{◌≡◌, ◌-◌, ◌≤◌}
-use Rattle.relay_drive.specs.Agenda.{HoldsBeside, IsNamedRight, IsUntold, SameBesideWants}
+use Rattle.std.proofs.Common.{◌≡◌, ℕ, ◌<◌, ◌-◌, ◌≤◌}
+use Rattle.relay_state.specs.Closing.{in_side, out_side}
+use Rattle.relay_drive.specs.Agenda.{HoldsBeside, IsNamedRight, SaysOf, SameBesideWants}
 use Rattle.relay_drive.proofs.poll.name_wants.Given as goal
 
 abbrev pub invariant-loop-link : goal.invariant-loop-link
@@ -8,7 +9,7 @@ invariant-loop-link l = record {
   named : HoldsBeside l.agenda.to_name (IsNamedRight l.wants) l.relay.state;
   same : SameBesideWants l.fn.agenda l.agenda;
   within : l.from ≤ l.relay.state.plain.opened;
-  past : IsUntold l.agenda.to_name 0 l.from;
+  said : (k : ℕ) → k < l.from → SaysOf l.wants l.relay.state (in_side k) × SaysOf l.wants l.relay.state (out_side k);
 }
 
 abbrev pub decreases-loop-link : goal.decreases-loop-link

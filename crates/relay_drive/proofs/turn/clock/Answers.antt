@@ -1,32 +1,34 @@
-use Rattle.std.proofs.Common.{sym, ◌∙◌, ap}
-use Rattle.relay_model.specs.Settings.{Settings}
-use Rattle.relay_drive.proofs.AgendaLemmas.{kept-all, names-all, kept-same, names-same, named-unset}
+use Rattle.std.proofs.Common.{◌≡◌, ℕ, ◌<◌, false, sym, ◌∙◌, ap, subst, arith}
+use Rattle.ev_types.specs.declared.side.SideId.{SideId}
+use Rattle.relay_core.specs.RelayValue.{RelayValue}
+use Rattle.relay_drive.specs.Agenda.{TouchedEach, IsKept, TellsNames}
+use Rattle.relay_drive.proofs.AgendaLemmas.{kept-each, names-each}
+use Rattle.relay_drive.proofs.WantLemmas.{wants_freely}
 use Rattle.relay_drive.proofs.turn.clock.Goals as goal
 
-pub returns-then-not-is_untimed-clause-kept : goal.returns-then-not-is_untimed-clause-kept
-returns-then-not-is_untimed-clause-kept g c =
-    kept-all c.args.agenda.now c.touch_all.new.self c.args.run.now.relay.state c.read_clock.new.run.relay.state
-    c.in_ok-read_clock.ensures.opened
-    c.touch_all.ensures c.requires.kept
-
-pub returns-then-not-is_untimed-clause-named : goal.returns-then-not-is_untimed-clause-named
-returns-then-not-is_untimed-clause-named g c =
-    names-all c.args.agenda.now c.touch_all.new.self c.args.run.now.relay.state c.read_clock.new.run.relay.state
-    c.in_ok-read_clock.ensures.opened
-    c.touch_all.ensures c.requires.kept
-
-pub returns-else-not-is_untimed-clause-kept : goal.returns-else-not-is_untimed-clause-kept
-returns-else-not-is_untimed-clause-kept g c =
-    let done = c.in_ok-read_clock.ensures in
-    kept-same c.args.agenda.now c.args.run.now.relay.state c.read_clock.new.run.relay.state done.opened
-    (done.still (sym done.untimed ∙ sym c.is_untimed.ensures ∙ c.if-not-is_untimed.false)) c.requires.kept
-
-pub returns-else-not-is_untimed-clause-named : goal.returns-else-not-is_untimed-clause-named
-returns-else-not-is_untimed-clause-named g c = λ t named.
-    let done = c.in_ok-read_clock.ensures in
+pub returns-clause-kept : goal.returns-clause-kept
+returns-clause-kept g c =
     let old = c.args.run.now.relay.state in
     let new = c.read_clock.new.run.relay.state in
-    let untimed = sym done.untimed ∙ sym c.is_untimed.ensures ∙ c.if-not-is_untimed.false in
-    let same = done.still untimed in
-    named-unset c.args.agenda.now t new (ap (λ (g : Settings). g.groups) (same 0).settings ∙ done.groups untimed)
-    (names-same c.args.agenda.now old new done.opened same t named)
+    let set = c.watched.result.now in
+    let agenda = c.touch_each.new.self in
+    let done = c.in_ok-read_clock.ensures in
+    let timeless = λ (n : ℕ) (lt : n < new.plain.opened) (out : set.has n ≡ false) (e : SideId) (here : e.link ≡ n).
+    c.watched.ensures e (omega (arith, here, lt)) (subst (λ m. set.has m ≡ false) (sym here) out) in
+    let touched = subst (λ n. TouchedEach set n c.args.agenda.now agenda) c.opened-opened.ensures.count c.touch_each.ensures in
+    subst (λ (r : RelayValue). IsKept agenda r.state) (sym c.forget_timeless.ensures)
+    (kept-each set c.args.agenda.now agenda old new done.opened touched (λ n lt out. done.still n (timeless n lt out)) c.requires.kept)
+
+pub returns-clause-named : goal.returns-clause-named
+returns-clause-named g c =
+    let old = c.args.run.now.relay.state in
+    let new = c.read_clock.new.run.relay.state in
+    let set = c.watched.result.now in
+    let agenda = c.touch_each.new.self in
+    let done = c.in_ok-read_clock.ensures in
+    let timeless = λ (n : ℕ) (lt : n < new.plain.opened) (out : set.has n ≡ false) (e : SideId) (here : e.link ≡ n).
+    c.watched.ensures e (omega (arith, here, lt)) (subst (λ m. set.has m ≡ false) (sym here) out) in
+    let touched = subst (λ n. TouchedEach set n c.args.agenda.now agenda) c.opened-opened.ensures.count c.touch_each.ensures in
+    subst (λ (r : RelayValue). TellsNames c.args.agenda.now old agenda r.state) (sym c.forget_timeless.ensures)
+    (names-each set c.args.agenda.now agenda old new done.opened touched
+    (λ n lt out. let t = timeless n lt out in (done.still n t, wants_freely new n t)))

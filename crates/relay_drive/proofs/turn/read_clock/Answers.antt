@@ -4,9 +4,9 @@ use Rattle.ev_types.specs.Trace.{Trace}
 use Rattle.relay_state.specs.State.{State}
 use Rattle.relay_state.specs.Time.{begun}
 use Rattle.relay_steps.proofs.FrameLemmas.{frame-begun}
-use Rattle.relay_drive.specs.Links.{SameLink}
+use Rattle.relay_drive.specs.Links.{SameLink, IsTimelessLink}
 use Rattle.relay_drive.specs.Agenda.{CountsAreFew}
-use Rattle.relay_drive.proofs.OtherLinks.{taken-same}
+use Rattle.relay_drive.proofs.BegunLemmas.{begun-same}
 use Rattle.relay_drive.proofs.FewLemmas.{few-begun}
 use Rattle.relay_drive.proofs.GoesLemmas.{Grew-join, goes_by, goes_nowhere}
 use Rattle.relay_drive.proofs.HeardLemmas.{Heard-quiet}
@@ -54,11 +54,9 @@ returns-clause-opened g c =
 pub returns-clause-still : goal.returns-clause-still
 returns-clause-still g c =
     let s = c.args.run.now.relay.state in
-    λ untimed k.
-    subst (SameLink k s) (sym (c.begin-ms.ensures.still untimed)) (taken-same k c.begin-ms.result s (c.begin-ms.ensures.rateless untimed))
-
-pub returns-clause-groups : goal.returns-clause-groups
-returns-clause-groups g c = λ untimed. (c.begin-ms.ensures.rateless untimed).none
+    let ms = c.begin-ms.result in
+    λ k h. subst (SameLink k s) (sym c.begin-ms.ensures.state)
+    (begun-same k ms s (subst (λ z. IsTimelessLink z k) c.begin-ms.ensures.state h))
 
 pub returns-clause-few : goal.returns-clause-few
 returns-clause-few g c = λ few. subst CountsAreFew (sym c.begin-ms.ensures.state)

@@ -1,9 +1,16 @@
-use Rattle.std.proofs.Common.{ap}
-use Rattle.relay_model.specs.Moments.{active_at}
+use Rattle.std.proofs.Common.{◌∙◌, ap, sym}
+use Rattle.std.proofs.lemmas.List.{set-get_or}
+use Rattle.ev_types.specs.Sides.{number}
+use Rattle.relay_model.specs.Moments.{active_at, expire, is_timed}
+use Rattle.relay_model.specs.Plain.{side_at}
+use Rattle.relay_state.specs.Running.{no_gauge}
+use Rattle.relay_core.specs.declared.relay.Relay.TheInside.{Inside}
+use Rattle.relay_core.specs.RelayValue.{RelayValue}
 use Rattle.relay_sides.specs.Links as links
 use Rattle.relay_sides.specs.Links.{Links}
 use Rattle.relay_core.proofs.RelayLemmas.{still_sound}
-use Rattle.relay_core.proofs.TimeLemmas.{active_sound}
+use Rattle.relay_core.proofs.TimeLemmas.{active_sound, expire_sound}
+use Rattle.relay_core.proofs.WatchLemmas.{watching-changed, watching-more, alike-active}
 use Rattle.relay_core.proofs.relay.Relay.look_at.Goals as goal
 
 pub invariant_of-self-inside : goal.invariant_of-self-inside
@@ -17,6 +24,32 @@ invariant_of-self-inside c =
           (active_sound r.time r.untimed c.args.dir (links.side_at k e))
           (ap (λ (z : Links). z.sides) c.be_active.ensures) (ap (λ (z : Links). z.gauges) c.be_active.ensures);
       grouped = h.grouped;
+      watching = watching-changed r.watched r.time k r.groups.value.members h.watching c.be_active.new.self.links e
+          (active_at r.time c.args.dir) c.be_active.ensures (alike-active r.time c.args.dir);
+      time = h.time;
+      few = h.few;
+      room = h.room;
+      limits = h.limits;
+    }
+
+pub invariant_of-self-inside-then-has_run_out : goal.invariant_of-self-inside-then-has_run_out
+invariant_of-self-inside-then-has_run_out c =
+    let r = c.self-inside-then-has_run_out.inside.0.0 in
+    let h = c.self-inside-then-has_run_out.invariant in
+    let k = r.sides.links in
+    let e = c.args.side in
+    let is = ap (λ (z : Inside). z.ctl) c.self-inside-then-has_run_out.view_is in
+    record {
+      timed = still_sound r.settings r.time r.untimed k c.expire.new.self.links e (expire c.args.dir) h.timed
+          (expire_sound r.time r.untimed c.args.dir (links.side_at k e)
+          (ap (λ (z : RelayValue). is_timed (side_at z.state.plain e) c.args.dir) is ∙ sym c.is_timed.ensures ∙ c.if-not-is_timed.false))
+          (ap (λ (z : Links). z.sides) c.expire.ensures) (ap (λ (z : Links). z.gauges) c.expire.ensures);
+      grouped = h.grouped;
+      watching = watching-more r.watched r.time k r.groups.value.members h.watching c.insert.new.self c.expire.new.self.links
+          r.groups.value.members e (expire c.args.dir (links.side_at k e)) (links.gauge_at k e) c.insert.ensures.members c.insert.ensures.len
+          (ap (λ (z : Links). z.sides) c.expire.ensures)
+          (ap (λ (z : Links). z.gauges) c.expire.ensures ∙ sym (set-get_or k.gauges (number e) no_gauge))
+          (ap (λ (z : Links). z.opened) c.expire.ensures) (λ z other none. none);
       time = h.time;
       few = h.few;
       room = h.room;

@@ -33,6 +33,10 @@ invariant_of-ctl c = record {
     none = λ e. c.in_ok-groups.ensures ∙ ap (λ xs. new_groups (map group_given xs)) e;
     untimed = c.is_untimed-untimed.ensures.groups;
   };
+  watching = record {
+    covers = (let none = ap (λ (k : Links). k.opened) c.new.ensures in omega (arith, none));
+    beside = λ e below out. absurd (let none = ap (λ (k : Links). k.opened) c.new.ensures in omega (arith, none, below));
+  };
   time = omega arith;
   few = omega arith;
   room = omega arith;

@@ -1,9 +1,11 @@
-use Rattle.std.proofs.Common.{◌∙◌, ap, arith}
+use Rattle.std.proofs.Common.{◌≡◌, ℕ, ◌==◌, true, if◌then◌else◌, ◌∙◌, ap, subst, arith, rules}
+use Rattle.ev_types.specs.declared.side.SideId.{SideId}
 use Rattle.ev_types.specs.declared.side.Side.TheVariants.{In}
 use Rattle.relay_sides.specs.declared.opening.NewSide.{NewSide}
 use Rattle.relay_sides.specs.Links.{with_link}
 use Rattle.relay_state.specs.Opening.{joined_where}
 use Rattle.relay_core.proofs.RelayLemmas.{opened_sound, opened_groups_sound}
+use Rattle.relay_core.proofs.WatchLemmas.{watching-opened}
 use Rattle.relay_core.proofs.relay.Relay.open.Goals as goal
 
 pub invariant_of-ctl : goal.invariant_of-ctl
@@ -20,6 +22,15 @@ invariant_of-ctl c =
           (record { link = c.opened.result; side = In }) r.groups.value) c.near_side-near.ensures)
           (c.join_where-2.ensures.value ∙ ap (λ
           (n : NewSide). joined_where n.group c.peer.result c.join_where.new.groups.value) c.far_side-far.ensures);
+      watching = watching-opened r.watched c.insert.new.self r.time r.turns r.sides.links c.open.new.self.links r.groups.value
+          c.join_where.new.groups.value c.join_where-2.new.groups.value c.near_side-near.result c.far_side-far.result
+          (record { link = c.opened.result; side = In }) c.peer.result h.watching c.opened.ensures.pairs.sides c.opened.ensures.pairs.gauges
+          (search rules)
+          (subst (λ o. (n : ℕ) → c.insert.new.self.has n ≡ (if n == o then true else r.watched.has n)) c.opened.ensures.count
+          c.insert.ensures.members)
+          c.insert.ensures.len c.open.ensures.links c.opened.ensures.count
+          (ap (λ (e : SideId). e.link) c.peer.ensures ∙ c.opened.ensures.count) c.join_where.ensures.value
+          c.join_where-2.ensures.value;
       time = h.time;
       few = omega arith;
       room = (let room = h.room in let few = h.few in omega (arith, room, few));

@@ -1,0 +1,28 @@
+use Rattle.std.proofs.Common.{rules, ◌∙◌, sym, ap}
+use Rattle.std.proofs.lemmas.List.{set-get_or}
+use Rattle.ev_types.specs.Sides.{number}
+use Rattle.relay_state.specs.Running.{no_gauge}
+use Rattle.relay_sides.specs.Links as links
+use Rattle.relay_sides.specs.Links.{Links}
+use Rattle.relay_core.proofs.WatchLemmas.{watching-more}
+use Rattle.relay_core.proofs.ctl.Ctl.set_timeouts.Goals as goal
+
+pub invariant_of-self : goal.invariant_of-self
+invariant_of-self c =
+    let r = c.self.inside in
+    let h = c.self.invariant in
+    let k = r.sides.links in
+    let e = c.args.side in
+    record {
+      timed = search rules;
+      grouped = search rules;
+      watching = watching-more r.watched r.time k r.groups.value.members h.watching c.insert.new.self c.set_timeouts.new.self.links
+          r.groups.value.members e _ (links.gauge_at k e) c.insert.ensures.members c.insert.ensures.len
+          (ap (λ (z : Links). z.sides) c.set_timeouts.ensures)
+          (ap (λ (z : Links). z.gauges) c.set_timeouts.ensures ∙ sym (set-get_or k.gauges (number e) no_gauge))
+          (ap (λ (z : Links). z.opened) c.set_timeouts.ensures) (λ z other none. none);
+      time = h.time;
+      few = h.few;
+      room = h.room;
+      limits = h.limits;
+    }

@@ -1,0 +1,34 @@
+use Rattle.std.proofs.Common.{true, false, refl, ap}
+use Rattle.token_bucket.specs.declared.limit.Dir.TheVariants as dir
+use Rattle.relay_model.specs.Plain.{PlainSide}
+use Rattle.relay_model.specs.Moments.{active_at}
+use Rattle.relay_sides.specs.Links as links
+use Rattle.relay_sides.specs.Links.{Links}
+use Rattle.relay_core.proofs.RelayLemmas.{still_sound}
+use Rattle.relay_core.proofs.TimeLemmas.{active_sound}
+use Rattle.relay_core.proofs.WatchLemmas.{changed_sound, watching-took}
+use Rattle.relay_core.proofs.relay.Relay.write_answered.Goals as goal
+
+pub invariant_of-self-inside : goal.invariant_of-self-inside
+invariant_of-self-inside c =
+    let r = c.self-inside.inside.0.0 in
+    let h = c.self-inside.invariant in
+    let k = r.sides.links in
+    let e = c.args.side in
+    record {
+      timed = still_sound r.settings r.time r.untimed k c.took.new.self.links e (active_at r.time dir.Write) h.timed
+          (active_sound r.time r.untimed dir.Write (links.side_at k e))
+          (ap (λ (z : Links). z.sides) c.took.ensures) (ap (λ (z : Links). z.gauges) c.took.ensures);
+      grouped = h.grouped;
+      watching = watching-took r.watched r.time k c.took.new.self.links r.groups.value.members e _ h.watching c.took.ensures;
+      time = h.time;
+      few = h.few;
+      room = h.room;
+      limits = h.limits;
+    }
+
+pub invariant_of-self-inside-in-Failed : goal.invariant_of-self-inside-in-Failed
+invariant_of-self-inside-in-Failed c =
+    changed_sound c.self-inside-in-Failed.inside.0.0 c.write_failed.new.self c.args.side (λ (x : PlainSide). record x { failed = true; writes = false })
+    c.self-inside-in-Failed.invariant c.write_failed.ensures
+    (λ x. record { alike = record { live = refl; timeouts = refl; expired = refl; limit = refl }; read = refl; write = refl })

@@ -1,0 +1,119 @@
+// The links that are watched as time goes on: those of sides with a timeout or an empty bucket, of sides in a group, and some at which
+// something changed since they were looked at.
+ghost use Rattle.std.specs.Prelude.{◌≡◌, ◌+◌, ◌^◌, ◌<◌, ◌≤◌, true, false, MatchOption};
+ghost use Rattle.relay_model.specs.Plain.{is_live};
+ghost use Rattle.relay_state.specs.Rooms.{allowance};
+ghost use Rattle.relay_core.specs.Timeless.{leaves_some, IsTimelessSide, AreTimeless, AreTimelessBeside};
+
+use crate::ctl::Ctl;
+use crate::relay::Relay;
+use ev_types::{Side, SideId};
+use number_set::NumberSet;
+use relay_sides::Dir;
+
+/// Whether a bound leaves something to move.
+fn leaves_some(most: Option<u64>) -> bool
+    ensures { result ≡ leaves_some most }
+{
+    match most {
+        None => true,
+        Some(most) => most >= 1,
+    }
+}
+
+impl Relay {
+    /// The links that are watched. A side of every other link waits for no moment: time changes nothing at it, and a poll doesn't wake up
+    /// for it. Constant; takes no memory.
+    ///
+    /// Own.
+    pub fn watched(&self) -> &NumberSet
+        ensures { AreTimelessBeside result.now self.now.state }
+    {
+        &self.ctl.watched
+    }
+
+    /// The first watched link from a number on.
+    pub(crate) fn next_watched(&self, from: u32) -> Option<u32>
+        ensures { MatchOption result (AreTimeless self.now.state from self.now.state.plain.opened)
+            (λ link. (from ≤ link) × (link < self.now.state.plain.opened) × (link + 1 < 2 ^ 32) × AreTimeless self.now.state from link) }
+    {
+        let link = self.ctl.watched.next(from as usize)?;
+        if link < self.ctl.sides.opened() as usize {
+            Some(link as u32)
+        } else {
+            None
+        }
+    }
+
+    /// The links are watched no more whose sides wait for no moment. Takes no memory; linear in the links that are watched, and it looks at
+    /// a word for each 64 links.
+    ///
+    /// Own.
+    pub fn forget_timeless(&mut self)
+        ensures { self.new ≡ self.old }
+    {
+        let mut from = 0;
+        while let Some(link) = self.next_watched(from) {
+            self.forget_where_timeless(link);
+            from = link + 1;
+        }
+    }
+
+    /// A link is watched no more where its sides wait for no moment.
+    fn forget_where_timeless(&mut self, link: u32)
+        requires { link < self.old.state.plain.opened }
+        ensures { self.new ≡ self.old }
+    {
+        let near = SideId {
+            link,
+            side: Side::In,
+        };
+        if self.ctl.is_timeless(near) && self.ctl.is_timeless(near.peer()) {
+            self.ctl.watched.remove(link as usize);
+        }
+    }
+}
+
+impl Ctl {
+    ghost use Rattle.std.specs.Prelude.{◌&&◌};
+    ghost use Rattle.relay_model.specs.Plain.{side_at};
+    ghost use Rattle.relay_model.specs.Moments.{is_timed};
+
+    /// Whether the side is live and has a timeout for the direction.
+    pub(crate) fn is_timed(&self, side: SideId, dir: Dir) -> bool
+        requires { side.link < self.now.state.plain.opened }
+        ensures { result ≡ is_timed (side_at self.now.state.plain side) dir }
+    {
+        self.sides.is_live(side) && self.sides.timeout(side, dir) >= 1
+    }
+
+    /// Whether a live side has expired.
+    pub(crate) fn is_expired(&self, side: SideId) -> bool
+        requires { side.link < self.now.state.plain.opened }
+        ensures { result ≡ ((side_at self.now.state.plain side).live && (side_at self.now.state.plain side).expired) }
+    {
+        let flags = self.sides.flags(side);
+        flags.live && flags.expired
+    }
+
+    /// Whether the limit of a side leaves it something in a direction, if it is live.
+    fn may_move(&self, side: SideId, dir: Dir) -> bool
+        requires { side.link < self.now.state.plain.opened }
+        ensures { result ≡ true → is_live self.now.state.plain side ≡ true → leaves_some (allowance self.now.state side dir) ≡ true }
+    {
+        !self.sides.is_live(side) || leaves_some(self.sides.allowance(side, dir, self.time))
+    }
+
+    /// Whether the side waits for no moment.
+    fn is_timeless(&self, side: SideId) -> bool
+        requires { side.link < self.now.state.plain.opened }
+        ensures { result ≡ true → IsTimelessSide self.now.state side }
+    {
+        !self.is_timed(side, Dir::Read)
+            && !self.is_timed(side, Dir::Write)
+            && !self.is_expired(side)
+            && self.may_move(side, Dir::Read)
+            && self.may_move(side, Dir::Write)
+            && self.groups.share(side.number() as u64, Dir::Read).is_none()
+    }
+}
