@@ -1,27 +1,23 @@
 -- A run of a generated script may begin, and nothing but want of memory keeps it from its end.
-use Rattle.std.proofs.Common.{◌≡◌, ◌≤◌, ◌<◌, ◌+◌, ◌-◌, ◌*◌, ◌^◌, ◌++◌, ◌||◌, ℕ, zero, suc, Bool, true, false, List, [], ◌∷◌, Option, Some, None, Result, Ok, Err, length, refl}
+use Rattle.std.proofs.Common.{◌≡◌, ◌≤◌, ◌+◌, ◌-◌, ◌++◌, ◌||◌, ℕ, zero, suc, Bool, true, false, List, [], ◌∷◌, Option, Result, Ok, Err, refl}
 use Rattle.std.proofs.Common.{sym, ap, subst, arith, ◌∙◌, take, drop}
 use Rattle.std.specs.Prelude.{replicate, IfOk, IfErr}
 use Rattle.std.specs.List.{flat_map, list_any}
-use Rattle.std.proofs.lemmas.Grind.{flat_map-append}
-use Rattle.ev_types.specs.ScriptTurn.{ScriptTurn, lines_of}
+use Rattle.ev_types.specs.ScriptTurn.{ScriptTurn}
 use Rattle.ev_types.specs.Trace.{Trace}
-use Rattle.ev_types.specs.declared.settings.Settings.{Settings}
-use Rattle.ev_types.specs.declared.side.SideId.{SideId}
 use Rattle.ev_types.specs.declared.status.LinkCount.{LinkCount}
 use Rattle.ev_types.specs.declared.turn_line.TurnLine.{TurnLine}
 use Rattle.ev_types.specs.declared.turn_line.TurnLine.TheVariants as line
 use Rattle.command_words.specs.declared.mode.Ending.TheVariants as ending
 use Rattle.relay_model.specs.Lines.{fails_poll}
-use Rattle.relay_model.specs.Scripted.{begun, lines_now, poll_fails}
+use Rattle.relay_model.specs.Scripted.{begun, poll_fails}
 use Rattle.relay_laws.specs.Spelling.{BringsFit, TimeoutsFit}
 use Rattle.program_end.proofs.StopLemmas.{never_stopped}
-use Rattle.big_script.specs.BigScript.{big_script_of, idle_turns, lines_from, lines_with, turns_with_each}
-use Rattle.big_script.specs.Generated.{generated, number_after}
-use Rattle.big_script.specs.BigLaws.{IsBig}
+use Rattle.big_script.specs.BigScript.{big_script_of, idle_turns, lines_from, lines_with}
+use Rattle.big_script.specs.Generated.{number_after}
 use Rattle.big_script.proofs.BigLemmas.{big_scripts_are_big}
 use Rattle.script_port.specs.ScriptState.{PortState}
-use Rattle.relay_drive.specs.Seats.{seated_sides, Telling}
+use Rattle.relay_drive.specs.Seats.{Telling}
 use Rattle.evplay.specs.Big.{summary_text, IsBigText, no_hooks}
 use Rattle.evplay.specs.HandedIn.{HasSeats}
 use Rattle.evplay.specs.Headline.{settings_of, settings_on, IsRun}

@@ -1,7 +1,6 @@
 -- What a drive and a script port keep over the turns of a script, and over closing turns behind them, is a run of that script.
-use Rattle.std.proofs.Common.{◌≡◌, ◌≢◌, ◌⊎◌, inl, inr, ◌≤◌, ◌+◌, ℕ, true, List, Option, [], length, sym, ap, ◌∙◌, refl, subst, arith, count_by, Result, Ok, Err, IfErr}
-use Rattle.ev_types.specs.AskNumbers.{AsksFit}
-use Rattle.ev_types.specs.ScriptTurn.{ScriptTurn, lines_of}
+use Rattle.std.proofs.Common.{◌≡◌, ◌≢◌, ◌⊎◌, inl, inr, ◌≤◌, ◌+◌, ℕ, true, List, Option, [], length, sym, ap, ◌∙◌, refl, subst, arith}
+use Rattle.std.proofs.Common.{count_by, Result, Ok, Err, IfErr}
 use Rattle.ev_types.specs.Trace.{Trace}
 use Rattle.ev_types.specs.declared.plan_line.PlanLine.{PlanLine}
 use Rattle.ev_types.specs.declared.side.SideId.{SideId}
@@ -9,16 +8,13 @@ use Rattle.command_words.specs.declared.mode.Ending.{Ending}
 use Rattle.command_words.specs.declared.mode.Ending.TheVariants as ending
 use Rattle.script_text.specs.Script.{ScriptValue}
 use Rattle.relay_model.specs.Answers.{TurnAnswer}
-use Rattle.relay_model.specs.Called.{NamesOpened}
 use Rattle.relay_model.specs.Hooked.{AskPlanned}
-use Rattle.relay_model.specs.Plays.{AlwaysTookAll, EndsPlayed, IsAnswered, Plays, TookAll}
+use Rattle.relay_model.specs.Plays.{AlwaysTookAll, EndsPlayed, TookAll}
 use Rattle.relay_model.specs.RatesKept.{is_turn}
 use Rattle.relay_model.specs.Script.{closing_step, plan_of}
 use Rattle.relay_model.specs.Scripted.{begun}
 use Rattle.relay_model.specs.Settings.{Settings}
-use Rattle.relay_model.specs.Stages.{Stage, at}
-use Rattle.relay_state.specs.State.{State}
-use Rattle.relay_steps.specs.Meaning.{StandsFor, LeftFor}
+use Rattle.relay_model.specs.Stages.{Stage}
 use Rattle.relay_laws.specs.Relayed.{StoodBetween}
 use Rattle.relay_laws.specs.Report.{lines_below}
 use Rattle.relay_laws.specs.Spelling.{TimeoutsFit}

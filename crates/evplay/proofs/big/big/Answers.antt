@@ -1,4 +1,4 @@
-use Rattle.std.proofs.Common.{◌≡◌, [], length, refl, ap, sym, subst, ◌∙◌, arith}
+use Rattle.std.proofs.Common.{[], refl, ap, sym, subst, ◌∙◌, arith}
 use Rattle.ev_types.specs.declared.settings.Settings.{Settings}
 use Rattle.script_port.specs.ScriptPlan.{first_plan}
 use Rattle.script_port.specs.ScriptPort.{new_port}

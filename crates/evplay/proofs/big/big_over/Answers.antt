@@ -1,4 +1,4 @@
-use Rattle.std.proofs.Common.{◌≡◌, ◌⊎◌, inl, inr, ap, ◌∙◌, subst, Result, Ok, Err, IfOk, IfErr, sym}
+use Rattle.std.proofs.Common.{◌≡◌, ap, ◌∙◌, Result, Ok, Err, IfOk, sym}
 use Rattle.relay_core.specs.GivenGroups.{settings_given}
 use Rattle.relay_model.specs.Script.{closing_step}
 use Rattle.relay_drive.specs.declared.fault.DriveFault.TheVariants as fault
@@ -26,9 +26,9 @@ returns-clause-text g c =
     let tells = telling (λ h. (goal.Hook-dyn g (h.vtable, h.value)).heard h.value)
     (λ h. (goal.Hook-dyn g (h.vtable, h.value)).asked h.value) (λ h. (goal.Hook-dyn g (h.vtable, h.value)).planned h.value) in
     let began = ap (λ (d : DriveValue). d.state.settings) c.in_ok-drive.ensures.value
-        ∙ ap (λ hooks. settings_given c.args.settings c.args.given (seated_sides hooks)) c.requires.no_hooks ∙ c.requires.settings in
+    ∙ ap (λ hooks. settings_given c.args.settings c.args.given (seated_sides hooks)) c.requires.no_hooks ∙ c.requires.settings in
     let made = c.make_turns-ended.ensures.made (big_script_of n) no_hooks began
-        (none-seated tells n c.args.seats.now.hooks.items c.requires.no_hooks) in
+    (none-seated tells n c.args.seats.now.hooks.items c.requires.no_hooks) in
     let s = c.make_turns-ended.new.drive.state in
     let t = c.make_turns-ended.new.scribe.trace in
     ok-each _ (λ text. IsBigText n text.items) c.told_of.result c.told_of.ensures.text

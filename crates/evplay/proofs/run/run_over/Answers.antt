@@ -1,6 +1,4 @@
-use Rattle.std.proofs.Common.{◌≡◌, ap, ◌∙◌, subst, Option, Some, None, Result, Ok, Err, IfOk, IfErr, refl, sym}
-use Rattle.std.specs.Prelude.{IsSomeAnd}
-use Rattle.ev_types.specs.Trace.{Trace}
+use Rattle.std.proofs.Common.{◌≡◌, ap, ◌∙◌, subst, Result, Ok, Err, IfOk, sym}
 use Rattle.relay_drive.specs.declared.fault.DriveFault.TheVariants as fault
 use Rattle.relay_drive.specs.DriveValue.{DriveValue}
 use Rattle.relay_drive.specs.Seats.{seated_sides}
