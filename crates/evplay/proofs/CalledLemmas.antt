@@ -1,7 +1,7 @@
 -- A trace of a run is called for by the plan of its port.
-use Rattle.std.proofs.Common.{◌≡◌, ◌≤◌, ◌+◌, ◌++◌, ℕ, zero, suc, [], ◌∷◌, List, length, arith, refl, sym, ap, ◌∙◌, subst, append-nil}
+use Rattle.std.proofs.Common.{◌≡◌, ◌≤◌, ◌+◌, ◌++◌, ℕ, zero, suc, [], List, length, arith, refl, sym, ap, ◌∙◌, subst, append-nil}
 use Rattle.std.proofs.Common.{length-append}
-use Rattle.std.specs.Prelude.{count_by, replicate}
+use Rattle.std.specs.Prelude.{count_by}
 use Rattle.std.proofs.lemmas.Grind.{flat_map-append}
 use Rattle.ev_types.specs.ScriptTurn.{ScriptTurn, lines_of}
 use Rattle.ev_types.specs.Trace.{Trace}
@@ -34,7 +34,12 @@ pub called-by : (plan : ScriptPlan) (t : Trace) (x : Stage) (s : State) → Stan
     count_by is_turn t ≤ length plan.turns + plan.closing → IsCalledBy plan t
 called-by plan t x s k names few = record {
   lines = subst (NamesOpened 0) (sym (lines_of-planned plan.turns plan.closing)) names;
-  turns_left = omega (arith, length-append plan.turns (closings plan.closing), length-closings plan.closing,
-      begun-is (plan.turns ++ closings plan.closing) t, few);
+  turns_left = omega (
+    arith,
+    length-append plan.turns (closings plan.closing),
+    length-closings plan.closing,
+    begun-is (plan.turns ++ closings plan.closing) t,
+    few,
+  );
   in_order = opens-in-order s.settings t (at x s.plain, k.reached);
 }

@@ -1,7 +1,7 @@
 -- Closing turns of a run: how many there may be, that the next one may be announced, and that the run drains its links.
-use Rattle.std.proofs.Common.{◌≡◌, ◌⊎◌, inl, inr, ◌≤◌, ◌<◌, ◌+◌, ◌-◌, ◌*◌, ◌^◌, ◌++◌, ◌∷◌, ◌&&◌, ℕ, zero, suc, Bool, true, false, min, List}
+use Rattle.std.proofs.Common.{◌≡◌, ◌⊎◌, inl, inr, ◌≤◌, ◌<◌, ◌+◌, ◌-◌, ◌*◌, ◌^◌, ◌++◌, ◌∷◌, ◌&&◌, ℕ, zero, suc, Bool, true, false, List}
 use Rattle.std.proofs.Common.{[]}
-use Rattle.std.proofs.Common.{Option, Some, None, length, refl, sym, ap, subst, arith, ◌∙◌, append-nil, append_assoc, IfSome, All}
+use Rattle.std.proofs.Common.{length, refl, sym, ap, subst, arith, ◌∙◌, append-nil, append_assoc, All}
 use Rattle.std.specs.Prelude.{count_by, map, nat_lt, nat_le, sum_by, slice_index_or, ⊤, MatchBool}
 use Rattle.std.specs.List.{flat_map}
 use Rattle.std.proofs.lemmas.Bool.{le-ltb, lt-ltb}

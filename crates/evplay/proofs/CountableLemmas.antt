@@ -1,6 +1,6 @@
 -- The clock can count the closing turns of a small script.
-use Rattle.std.proofs.Common.{◌≡◌, ◌≤◌, ◌+◌, ◌*◌, ◌^◌, ◌==◌, ℕ, Bool, true, false, max, List, [], ◌∷◌, ◌++◌, length, Option, Some, None}
-use Rattle.std.proofs.Common.{if◌then◌else◌, refl, sym, ap, ◌∙◌, subst, arith}
+use Rattle.std.proofs.Common.{◌≡◌, ◌≤◌, ◌*◌, ◌^◌, ◌==◌, ℕ, Bool, true, false, max, List, [], ◌∷◌, ◌++◌, Option, Some, None}
+use Rattle.std.proofs.Common.{if◌then◌else◌, refl, arith}
 use Rattle.std.specs.Prelude.{All, IfSome, fold, map, sum_by, unwrap_or, option_map, option_to_list}
 use Rattle.std.specs.List.{last_or}
 use Rattle.std.proofs.lemmas.List.Elements.{All-head, All-tail}
@@ -12,7 +12,7 @@ use Rattle.ev_types.specs.declared.turn_line.TurnLine.TheVariants as turn
 use Rattle.script_text.specs.Brought as text
 use Rattle.relay_model.specs.Settings.{GroupSet, Settings}
 use Rattle.relay_model.specs.Called.{NamesOpened}
-use Rattle.relay_model.specs.ClosingTurns.{brought_count, scripted_links}
+use Rattle.relay_model.specs.ClosingTurns.{brought_count}
 use Rattle.relay_model.specs.Script.{closing_step, greatest, tick_lengths}
 use Rattle.drain_laws.specs.CanDrain.{closing_turn_bound, last_moment, IsCountable}
 use Rattle.evplay.specs.Run.{AreSmall}

@@ -1,5 +1,5 @@
 -- A run with closing turns brings every link to its end, where the script and its settings let it.
-use Rattle.std.proofs.Common.{◌≡◌, ◌⊎◌, inl, inr, ◌+◌, ◌*◌, ◌≤◌, ◌^◌, ℕ, length, [], List, subst, arith, refl, sym, Some, None, Option}
+use Rattle.std.proofs.Common.{◌⊎◌, inl, inr, ◌+◌, ℕ, length, [], List, refl}
 use Rattle.ev_types.specs.ScriptTurn.{ScriptTurn, lines_of}
 use Rattle.ev_types.specs.Trace.{Trace}
 use Rattle.ev_types.specs.declared.status.LinkCount.{LinkCount}
@@ -12,7 +12,7 @@ use Rattle.relay_model.specs.Plays.{AlwaysTookAll, EndsPlayed, IsAnswered}
 use Rattle.relay_model.specs.Script.{closing_step}
 use Rattle.relay_model.proofs.DrainLemmas.{drains_in_most}
 use Rattle.relay_laws.specs.Relayed.{IsRelayed}
-use Rattle.drain_laws.specs.CanDrain.{CanDrain, IsCountable}
+use Rattle.drain_laws.specs.CanDrain.{CanDrain}
 use Rattle.drain_laws.proofs.BufferedLemmas.{most_is_bounded}
 use Rattle.drain_laws.proofs.DrainedLemmas.{drained_links_are_done}
 use Rattle.drain_laws.proofs.FewTurnLemmas.{closing_turns_are_few}

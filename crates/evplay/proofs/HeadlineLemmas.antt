@@ -1,10 +1,9 @@
 -- A trace for which a relay stands, and which is played from a script, is that of a run of that script.
-use Rattle.std.proofs.Common.{◌≡◌, ◌⊎◌, inl, inr, ◌+◌, ◌*◌, ◌≤◌, ◌^◌, ℕ, true, length, [], subst, sym, arith}
+use Rattle.std.proofs.Common.{◌≡◌, ℕ, true, subst, arith}
 use Rattle.ev_types.specs.ScriptTurn.{lines_of}
 use Rattle.ev_types.specs.Trace.{Trace}
 use Rattle.ev_types.specs.AskNumbers.{AsksFit}
 use Rattle.command_words.specs.declared.mode.Ending.{Ending}
-use Rattle.command_words.specs.declared.mode.Ending.TheVariants as ending
 use Rattle.script_text.specs.Script.{ScriptValue}
 use Rattle.script_text.proofs.TraceReadLemmas.{trace_of-trace_text}
 use Rattle.relay_model.specs.Settings.{Settings}

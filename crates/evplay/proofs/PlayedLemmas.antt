@@ -1,5 +1,5 @@
 -- What a script port vouches for is played from its script, whatever else that says.
-use Rattle.std.proofs.Common.{◌+◌, ◌++◌, ℕ, length, [], sym, subst, append-nil}
+use Rattle.std.proofs.Common.{◌+◌, ℕ, length, [], sym, subst, append-nil}
 use Rattle.ev_types.specs.Trace.{Trace}
 use Rattle.script_port.specs.ScriptPlan.{plan_of_run, ScriptPlan, IsCalledBy}
 use Rattle.script_port.specs.ScriptState.{PortState}

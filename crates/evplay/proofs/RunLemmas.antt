@@ -1,7 +1,6 @@
 -- What a drive and a script port keep over the turns of a script, and over closing turns behind them, is a run of that script.
-use Rattle.std.proofs.Common.{◌≡◌, ◌≢◌, ◌⊎◌, inl, inr, ◌≤◌, ◌+◌, ℕ, true, List, Option, [], length, sym, ap, ◌∙◌, refl, subst, arith, count_by}
-use Rattle.ev_types.specs.AskNumbers.{AsksFit}
-use Rattle.ev_types.specs.ScriptTurn.{ScriptTurn, lines_of}
+use Rattle.std.proofs.Common.{◌≡◌, ◌≢◌, ◌⊎◌, inl, inr, ◌≤◌, ◌+◌, ℕ, true, List, Option, [], length, sym, ap, ◌∙◌, refl, subst, arith}
+use Rattle.std.proofs.Common.{count_by, Result, Ok, Err, IfErr}
 use Rattle.ev_types.specs.Trace.{Trace}
 use Rattle.ev_types.specs.declared.plan_line.PlanLine.{PlanLine}
 use Rattle.ev_types.specs.declared.side.SideId.{SideId}
@@ -9,16 +8,13 @@ use Rattle.command_words.specs.declared.mode.Ending.{Ending}
 use Rattle.command_words.specs.declared.mode.Ending.TheVariants as ending
 use Rattle.script_text.specs.Script.{ScriptValue}
 use Rattle.relay_model.specs.Answers.{TurnAnswer}
-use Rattle.relay_model.specs.Called.{NamesOpened}
 use Rattle.relay_model.specs.Hooked.{AskPlanned}
-use Rattle.relay_model.specs.Plays.{AlwaysTookAll, EndsPlayed, IsAnswered, Plays, TookAll}
+use Rattle.relay_model.specs.Plays.{AlwaysTookAll, EndsPlayed, TookAll}
 use Rattle.relay_model.specs.RatesKept.{is_turn}
 use Rattle.relay_model.specs.Script.{closing_step, plan_of}
 use Rattle.relay_model.specs.Scripted.{begun}
 use Rattle.relay_model.specs.Settings.{Settings}
-use Rattle.relay_model.specs.Stages.{Stage, at}
-use Rattle.relay_state.specs.State.{State}
-use Rattle.relay_steps.specs.Meaning.{StandsFor, LeftFor}
+use Rattle.relay_model.specs.Stages.{Stage}
 use Rattle.relay_laws.specs.Relayed.{StoodBetween}
 use Rattle.relay_laws.specs.Report.{lines_below}
 use Rattle.relay_laws.specs.Spelling.{TimeoutsFit}
@@ -116,9 +112,9 @@ module _ (script : ScriptValue) (how : Ending) (handed : HandedIn) (n : ℕ) (g 
 -- hooks that told a plan asked what is planned
 pub planned-to : {H : Type 0} (tells : Telling H) (end : RunEnd) (plan : SideId → List PlanLine) (hooks gone : List (Option H)) (t : Trace) →
     ToldTo tells end plan hooks gone t → AskPlanned plan (answer_of end) t
-planned-to tells run_end.Went p hooks gone t told = all_told-planned tells p hooks gone t told
-planned-to tells run_end.PollFailed plan hooks gone t told = told
-planned-to tells (run_end.Stopped link turn) plan hooks gone t told = told
+planned-to tells run_end.Went lines hooks gone t told = all_told-planned tells lines hooks gone t told
+planned-to tells run_end.PollFailed lines hooks gone t told = told
+planned-to tells (run_end.Stopped link turn) lines hooks gone t told = told
 
 module _ (script : ScriptValue) (how : Ending) (handed : HandedIn) (n : ℕ) (g : Settings) (first : PortState) (ready : MayRun n g first)
     (on : g ≡ settings_on script handed) where
@@ -158,3 +154,10 @@ module _ (script : ScriptValue) (how : Ending) (handed : HandedIn) (n : ℕ) (g 
       run-to script how handed n g first p came.closing d t ready on end
       (subst (λ m. CameTo g (m + came.closing) end (closing_plan first.turns (closing_step g) came.closing) d p t) (sym ready.many) came.came)
       (subst (λ h. EndsAs h first.turns g (answer_of end) came.closing t) (sym drained) (inl came.drains)) asked
+
+-- why a run was refused is why its text is, or memory ran out for that
+pub err-then : {A B E : Type 0} (P : E → Type 0) (ended : Result A E) (r : Result B E) → IfErr ended P →
+    IfErr r (λ e. P e ⊎ (ended ≡ Err e)) → IfErr r P
+err-then P ended (Ok b) p q = tt
+err-then P ended (Err e) p (inl h) = h
+err-then P ended (Err e) p (inr h) = subst (λ z. IfErr z P) h p

@@ -1,5 +1,5 @@
 -- What a text spells is small: its moments are at most 2^40, and it opens at most 256 links.
-use Rattle.std.proofs.Common.{◌≡◌, ◌≤◌, ◌<◌, ◌+◌, ◌*◌, ◌^◌, ℕ, Bool, true, false, ◌&&◌, ◌||◌, not, nat_lt, List, [], ◌∷◌, ◌++◌, length}
+use Rattle.std.proofs.Common.{◌≡◌, ◌≤◌, ◌+◌, ◌*◌, ◌^◌, ℕ, Bool, true, false, ◌&&◌, ◌||◌, not, nat_lt, List, [], ◌∷◌, ◌++◌, length}
 use Rattle.std.proofs.Common.{codes}
 use Rattle.std.proofs.Common.{Option, Some, None, Ok, refl, sym, ap, ◌∙◌, subst, arith, if◌then◌else◌, length-append}
 use Rattle.std.specs.Prelude.{All, IfSome, option_map, option_and_then}
@@ -31,7 +31,6 @@ use Rattle.script_text.specs.Spelled.{no_line, script_of}
 use Rattle.script_text.specs.ValueGrammar.{why_kind_of}
 use Rattle.script_text.proofs.LawLemmas.{script_of-read, decimal-number_within}
 use Rattle.relay_model.specs.Lines.{links_by}
-use Rattle.relay_model.specs.ClosingTurns.{scripted_links}
 use Rattle.evplay.specs.Run.{AreSmall}
 use Rattle.evplay.proofs.BroughtLemmas.{some-map, some-then, some-if, lines_of-turn, lines_of-with_line}
 use Rattle.evplay.proofs.ScriptLemmas.{few-turns, some-is, none-some, keeps-lines}

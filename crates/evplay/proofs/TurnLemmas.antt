@@ -24,7 +24,6 @@ use Rattle.relay_drive.proofs.HookEvents.{asks_fit-none}
 use Rattle.relay_drive.proofs.NewStands.{new_relay_stands}
 use Rattle.relay_drive.proofs.BoundLaws.{turn_is_bounded, within_is_not_worn}
 use Rattle.relay_laws.specs.Relayed.{StoodBetween}
-use Rattle.relay_laws.specs.TurnEnds.{AtTurnEnds}
 use Rattle.relay_laws.proofs.RelayedLemmas.{stood-at}
 use Rattle.relay_laws.proofs.TurnEndLemmas.{ends-none, ends-grow}
 use Rattle.program_end.proofs.TurnCountLemmas.{turn-once, turn-first, end-begins, cut-poll-once, cut-poll-first, count-append}
@@ -33,7 +32,7 @@ use Rattle.script_port.specs.ScriptState.{PortState}
 use Rattle.script_port.specs.ScriptTold.{port_told, ends_told}
 use Rattle.script_port.specs.ScriptVouched.{NoneWaits, ScriptVouches}
 use Rattle.evplay.specs.Run.{first_drive, MayRun}
-use Rattle.evplay.specs.CameTo.{PortKnown, StandsAfter, EndedAt}
+use Rattle.evplay.specs.CameTo.{StandsAfter, EndedAt}
 use Rattle.evplay.specs.declared.run.RunEnd.{RunEnd}
 use Rattle.evplay.specs.declared.run.RunEnd.TheVariants as run_end
 

@@ -4,7 +4,7 @@ ghost use Rattle.script_text.specs.Lines.{line_of};
 ghost use Rattle.script_text.specs.ReportText.{count_of, same_state, total_words};
 ghost use Rattle.evplay.specs.Big.{number_line, summary_text};
 
-use ev_types::{LinkCount, LinkState};
+use ev_types::{LinkCount, LinkState, NoMemory};
 use std::alloc::{AllocError, Global};
 use sum_scribe::SumScribe;
 
@@ -52,7 +52,7 @@ pub(crate) fn summary(
     number: u32,
     scribe: &SumScribe,
     links: &[LinkCount],
-) -> Result<String, AllocError>
+) -> Result<String, NoMemory>
     ensures { IfOk result (λ text. string_bytes text ≡ summary_text number scribe.now.trace links.now) }
 {
     let first = number_line(alloc, "links", u64::from(number))?;
@@ -61,5 +61,5 @@ pub(crate) fn summary(
     let written = number_line(alloc, "written", scribe.written())?;
     let sum = number_line(alloc, "sum", scribe.sum())?;
     let total = total_line(alloc, links)?;
-    format!(in alloc; "{first}{turns}{read}{written}{sum}{total}")
+    Ok(format!(in alloc; "{first}{turns}{read}{written}{sum}{total}")?)
 }

@@ -1,12 +1,12 @@
-use Rattle.std.proofs.Common.{◌≡◌, ◌==◌, ◌++◌, ◌∷◌, [], ℕ, Bool, true, false, List, max, Option, Some, None, map, refl, sym, ap, ◌∙◌, if◌then◌else◌, arith}
+use Rattle.std.proofs.Common.{◌≡◌, ◌==◌, ◌++◌, ◌∷◌, [], ℕ, Bool, true, false, List, max, Option, Some, None, map, refl, sym, ap, ◌∙◌}
+use Rattle.std.proofs.Common.{if◌then◌else◌, arith}
 use Rattle.std.specs.Prelude.{fold, option_map, option_to_list}
 use Rattle.std.specs.Option.{option_map_or}
 use Rattle.std.proofs.lemmas.Bool.{eqb-true}
 use Rattle.token_bucket.specs.declared.limit.LimitCfg.{LimitCfg}
 use Rattle.rate_group.specs.declared.group_set.GroupSet.{GroupSet}
-use Rattle.ev_types.specs.declared.side.SideId.{SideId}
-use Rattle.relay_core.specs.GivenGroups.{group_given, settings_given}
-use Rattle.relay_model.specs.Script.{closing_step, greatest, tick_lengths}
+use Rattle.relay_core.specs.GivenGroups.{group_given}
+use Rattle.relay_model.specs.Script.{greatest}
 use Rattle.evplay.proofs.closing.closing_step.Goals as goal
 
 abbrev longest : ℕ → List ℕ → ℕ
@@ -53,7 +53,12 @@ not-zero n far = go (n == 0) refl
 pub returns-else-longest-eq0 : goal.returns-else-longest-eq0
 returns-else-longest-eq0 c = λ hooks.
     let n = c.longest_tick-longest.result in
-    let step : ℕ → ℕ = λ m. if m == 0 then 1000 else m in
+    let ins = c.args.settings.now.in_rate in
+    let outs = c.args.settings.now.out_rate in
+    let sides = c.longer_tick-of_sides.ensures ∙ ap (λ m. max m (option_map_or (λ (cfg : LimitCfg). cfg.tick_ms) outs 0)) c.longer_tick.ensures in
+    let groups = c.deref.ensures.value in
+    let whole : n ≡ longest (max (max 0 (option_map_or (λ (cfg : LimitCfg). cfg.tick_ms) ins 0))
+    (option_map_or (λ (cfg : LimitCfg). cfg.tick_ms) outs 0)) (map (λ (x : GroupSet). x.cfg.tick_ms) c.args.given.now.groups.items) =
+    c.longest_tick-longest.ensures ∙ (λ i. longest (sides i) (map (λ (x : GroupSet). x.cfg.tick_ms) (groups i))) in
     sym (ap (λ b. if b then 1000 else n) (not-zero n c.if-longest-eq0.false))
-    ∙ ap step (c.longest_tick-longest.ensures)
-    ∙ sym (ap step (greatest-is c.args.settings.now.in_rate c.args.settings.now.out_rate c.args.given.now.groups.items))
+    ∙ ap (λ m. if m == 0 then 1000 else m) (whole ∙ sym (greatest-is ins outs c.args.given.now.groups.items))

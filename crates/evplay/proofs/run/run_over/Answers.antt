@@ -1,6 +1,4 @@
-use Rattle.std.proofs.Common.{◌≡◌, ◌⊎◌, inl, inr, ap, ◌∙◌, subst, Option, Some, None, Result, Ok, Err, IfOk, IfErr, refl, sym}
-use Rattle.std.specs.Prelude.{IsSomeAnd}
-use Rattle.ev_types.specs.Trace.{Trace}
+use Rattle.std.proofs.Common.{◌≡◌, ap, ◌∙◌, subst, Result, Ok, Err, IfOk, sym}
 use Rattle.relay_drive.specs.declared.fault.DriveFault.TheVariants as fault
 use Rattle.relay_drive.specs.DriveValue.{DriveValue}
 use Rattle.relay_drive.specs.Seats.{seated_sides}
@@ -9,6 +7,7 @@ use Rattle.relay_laws.specs.Report.{lines_below}
 use Rattle.evplay.specs.Headline.{IsRun}
 use Rattle.evplay.specs.Play.{IsRunText}
 use Rattle.evplay.specs.Run.{answer_of, script_over, TellsTurn}
+use Rattle.evplay.proofs.RunLemmas.{err-then}
 use Rattle.evplay.proofs.run.run_over.Goals as goal
 
 -- What holds of an answer holds of the one that it is, and a fact of that gives one of what was made of it.
@@ -16,12 +15,6 @@ ok-then : {A B E : Type 0} (P : A → Type 0) (Q R : B → Type 0) (of : B → A
     IfOk r (λ b. (ended ≡ Ok (of b)) × Q b) → ((b : B) → P (of b) → Q b → R b) → IfOk r R
 ok-then P Q R of ended (Ok b) p q f = f b (subst (λ z. IfOk z P) q.0 p) q.1
 ok-then P Q R of ended (Err e) p q f = tt
-
-err-then : {A B E : Type 0} (P : E → Type 0) (ended : Result A E) (r : Result B E) → IfErr ended P →
-    IfErr r (λ e. P e ⊎ (ended ≡ Err e)) → IfErr r P
-err-then P ended (Ok b) p q = tt
-err-then P ended (Err e) p (inl h) = h
-err-then P ended (Err e) p (inr h) = subst (λ z. IfErr z P) h p
 
 pub returns-clause-text : goal.returns-clause-text
 returns-clause-text g c = λ script handed on seats.

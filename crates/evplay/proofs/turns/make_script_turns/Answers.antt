@@ -1,19 +1,15 @@
-use Rattle.std.proofs.Common.{◌≡◌, ◌≢◌, ◌⊎◌, inl, inr, ◌≤◌, ◌<◌, ◌+◌, ◌++◌, ◌^◌, ◌-◌, ℕ, Some, None, min, [], refl, ap, sym, ◌∙◌}
-use Rattle.std.proofs.Common.{subst, arith, Ok, IfOk, IfErr}
+use Rattle.std.proofs.Common.{◌≡◌, ◌<◌, ◌+◌, ◌++◌, ◌^◌, ◌-◌, ℕ, Some, None, min, [], refl, ap, sym, ◌∙◌}
+use Rattle.std.proofs.Common.{subst, arith, Ok}
 use Rattle.std.specs.Prelude.{count_by, IsSomeAnd}
 use Rattle.script_port.specs.ScriptPlan.{first_plan, ScriptPlan}
 use Rattle.script_port.specs.ScriptTold.{script_faults}
 use Rattle.relay_model.specs.Settings.{Settings}
 use Rattle.relay_model.specs.RatesKept.{is_turn}
-use Rattle.relay_drive.specs.declared.fault.DriveFault.{DriveFault}
-use Rattle.relay_drive.specs.declared.fault.DriveFault.TheVariants as fault
 use Rattle.relay_drive.specs.DriveValue.{kept_of}
-use Rattle.relay_drive.specs.Seats.{telling, AreSeated}
+use Rattle.relay_drive.specs.Seats.{telling}
 use Rattle.program_end.proofs.PlannedLemmas.{all_told-none, all_told-more, all_told-planned}
 use Rattle.program_end.proofs.TurnCountLemmas.{end-begins, count-append}
-use Rattle.evplay.specs.declared.run.RunEnd.{RunEnd}
-use Rattle.evplay.specs.declared.run.RunEnd.TheVariants as run_end
-use Rattle.evplay.specs.Run.{refused_by, TellsTurn}
+use Rattle.evplay.specs.Run.{TellsTurn}
 use Rattle.evplay.specs.CameTo.{CameTo, StandsAfter, ToldTo}
 use Rattle.evplay.proofs.FaultLemmas.{memory-or-poll, polled, only-memory, cut-told}
 use Rattle.evplay.proofs.TurnLemmas.{fresh, first-stands, stands-more, stopped-more, failed-more, ended-within}
@@ -70,9 +66,11 @@ pub returns-clause-came : goal.returns-clause-came
 returns-clause-came g c = λ step.
     let inv = c.loop-turn.invariant in
     let all : c.loop-turn.turn ≡ c.args.turns = omega (arith, c.loop-turn-test.false, c.loop-turn.auto.turn-end) in
-    some-and _ (g.S.Scribe.trace c.loop-turn.scribe) _ inv.tells
-    (subst (λ n. StandsAfter c.args.drive.now.state.settings n (first_plan c.args.port.now.turns step) c.loop-turn.drive c.loop-turn.port
-    (trace_in (g.S.Scribe.trace c.loop-turn.scribe))) all (inv.stands step), tt)
+    some-and _ (g.S.Scribe.trace c.loop-turn.scribe) _ inv.tells (
+      subst (λ n. StandsAfter c.args.drive.now.state.settings n (first_plan c.args.port.now.turns step) c.loop-turn.drive c.loop-turn.port
+          (trace_in (g.S.Scribe.trace c.loop-turn.scribe))) all (inv.stands step),
+      tt,
+    )
 
 pub returns-clause-told : goal.returns-clause-told
 returns-clause-told g c = λ plan have.
@@ -101,9 +99,10 @@ returns-in-Ok-Stopped-clause-came g c = λ step.
     let begins = end-begins c.in-Ok-Stopped.field-0 c.loop-turn.drive.state c.turn.new.self.state w.added w.does in
     let counted : count_by is_turn (t ++ w.added) ≡ c.loop-turn.turn + 1 = omega
     (arith, count-append t w.added, begins.once, before.turns) in
-    some-and _ log' (t ++ w.added) (grew-is log log' t w.added inv.tells w.list)
-    (ended-within came (omega (arith, c.loop-turn-test.true)),
-    told-is c.loop-turn.turn (count_by is_turn (t ++ w.added)) (omega (arith, c.loop-turn-test.true, many, small)) counted)
+    some-and _ log' (t ++ w.added) (grew-is log log' t w.added inv.tells w.list) (
+      ended-within came (omega (arith, c.loop-turn-test.true)),
+      told-is c.loop-turn.turn (count_by is_turn (t ++ w.added)) (omega (arith, c.loop-turn-test.true, many, small)) counted,
+    )
 
 pub returns-in-Ok-Stopped-clause-told : goal.returns-in-Ok-Stopped-clause-told
 returns-in-Ok-Stopped-clause-told g c = λ plan have.
@@ -140,9 +139,11 @@ returns-in-Err-clause-came g c = λ step.
     rw c.end_by.ensures
     (polled (λ end. IsSomeAnd log' (λ u. CameTo gs c.args.turns end plan c.turn.new.self c.turn.new.port u × TellsTurn end u))
     c.in-Err.fault
-    (λ is. some-and _ log' (t ++ w.added) (grew-is log log' t w.added inv.tells w.list)
-    (ended-within (failed-more gs c.loop-turn.turn plan c.loop-turn.drive c.turn.new.self c.loop-turn.port c.turn.new.port t log log'
-    _ _ _ before c.in-Err.fault is w) (omega (arith, c.loop-turn-test.true)), tt)))
+    (λ is. some-and _ log' (t ++ w.added) (grew-is log log' t w.added inv.tells w.list) (
+      ended-within (failed-more gs c.loop-turn.turn plan c.loop-turn.drive c.turn.new.self c.loop-turn.port c.turn.new.port t log log'
+          _ _ _ before c.in-Err.fault is w) (omega (arith, c.loop-turn-test.true)),
+      tt,
+    )))
 
 pub returns-in-Err-clause-told : goal.returns-in-Err-clause-told
 returns-in-Err-clause-told g c = λ plan have.

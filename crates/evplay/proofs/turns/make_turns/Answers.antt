@@ -1,25 +1,18 @@
-use Rattle.std.proofs.Common.{◌≡◌, ◌≢◌, ◌⊎◌, inl, inr, ◌≤◌, ◌+◌, ℕ, true, List, Option, Some, None, refl, ap, sym, ◌∙◌, subst, arith, length, Result, Ok, Err, IfOk}
-use Rattle.std.specs.Prelude.{map, filter, IsSomeAnd}
+use Rattle.std.proofs.Common.{◌≡◌, inl, inr, ℕ, true, Option, Some, ap, sym, ◌∙◌, subst, length, Result, Ok, Err, IfOk}
+use Rattle.std.specs.Prelude.{IsSomeAnd}
 use Rattle.ev_types.specs.Trace.{Trace}
-use Rattle.ev_types.specs.declared.plan_line.PlanLine.{PlanLine}
-use Rattle.ev_types.specs.declared.side.SideId.{SideId}
 use Rattle.command_words.specs.declared.mode.Ending.{Ending}
-use Rattle.command_words.specs.declared.mode.Ending.TheVariants as ending
 use Rattle.script_port.specs.ScriptPlan.{first_plan}
 use Rattle.script_port.specs.ScriptState.{PortState}
-use Rattle.script_text.specs.Script.{ScriptValue}
 use Rattle.ev_types.specs.ScriptTurn.{lines_of}
-use Rattle.relay_model.specs.Answers.{TurnAnswer}
 use Rattle.relay_model.specs.Called.{NamesOpened}
 use Rattle.relay_model.specs.Script.{closing_step, plan_of}
 use Rattle.relay_model.specs.Settings.{Settings}
-use Rattle.relay_laws.specs.Report.{lines_below}
 use Rattle.relay_drive.specs.DriveValue.{DriveValue}
 use Rattle.relay_drive.specs.Seats.{telling}
-use Rattle.evplay.specs.CameTo.{closing_plan, CameTo, CameToEnd, StandsAfter, ToldTo}
-use Rattle.evplay.specs.HandedIn.{HandedIn, HasSeats}
-use Rattle.evplay.specs.Headline.{settings_on, script_run, EndsAs, IsRun}
-use Rattle.evplay.specs.Run.{answer_of, script_over, AreSmall, MayRun, TellsTurn}
+use Rattle.evplay.specs.CameTo.{CameTo, CameToEnd, StandsAfter, ToldTo}
+use Rattle.evplay.specs.Headline.{script_run}
+use Rattle.evplay.specs.Run.{AreSmall, TellsTurn}
 use Rattle.evplay.specs.declared.run.RunEnd.{RunEnd}
 use Rattle.evplay.specs.declared.run.RunEnd.TheVariants as run_end
 use Rattle.evplay.proofs.HandedLemmas.{have-plans}
@@ -144,9 +137,11 @@ returns-in-Drained-Went-clause-made g c = λ script handed on seats.
     c.make_script_turns.new.seats.gone.items)) c.in-Drained-Went.is-1
     (c.in_ok-end.ensures.told plan (have-plans c.args.seats.now.hooks.items tells script.plans handed seats tell))) in
     ended-each c.make_closing_turns.result _ _ _ came told
-    (λ end h asked. let all = told-so log' _ h in some-and _ log' (trace_in log') all.0
-    (run-drained script how_now handed c.args.turns gs first c.requires.may_run on end new q (trace_in log') c.in-Drained-Went.is-0 all.1
-    (λ tell. planned-to tells end plan hooks gone (trace_in log') (told-now log' _ all.0 (asked tell))), all.1.tells))
+    (λ end h asked. let all = told-so log' _ h in some-and _ log' (trace_in log') all.0 (
+      run-drained script how_now handed c.args.turns gs first c.requires.may_run on end new q (trace_in log') c.in-Drained-Went.is-0 all.1
+          (λ tell. planned-to tells end plan hooks gone (trace_in log') (told-now log' _ all.0 (asked tell))),
+      all.1.tells,
+    ))
   where
     how_now : Ending
     how_now = c.args.how
@@ -165,11 +160,13 @@ returns-in_default g c = record {
       (λ h. (goal.Hook-dyn g (h.vtable, h.value)).asked h.value) (λ h. (goal.Hook-dyn g (h.vtable, h.value)).planned h.value) in
       let plan = plan_of (script_run script) in
       let all = told-so log _ (c.in_ok-end.ensures.came (closing_step gs)) in
-      some-and _ log (trace_in log) all.0
-      (run-ended script c.args.how handed c.args.turns gs first c.requires.may_run on c.in_ok-end.end d p (trace_in log) all.1.0
-      (inr c.in_default.not-Went-1)
-      (λ tell. planned-to tells c.in_ok-end.end plan hooks gone (trace_in log) (told-now log _ all.0
-      (c.in_ok-end.ensures.told plan (have-plans c.args.seats.now.hooks.items tells script.plans handed seats tell)))), all.1.1);
+      some-and _ log (trace_in log) all.0 (
+        run-ended script c.args.how handed c.args.turns gs first c.requires.may_run on c.in_ok-end.end d p (trace_in log) all.1.0
+            (inr c.in_default.not-Went-1)
+            (λ tell. planned-to tells c.in_ok-end.end plan hooks gone (trace_in log) (told-now log _ all.0
+            (c.in_ok-end.ensures.told plan (have-plans c.args.seats.now.hooks.items tells script.plans handed seats tell)))),
+        all.1.1,
+      );
   only_memory = tt;
 }
 
@@ -186,8 +183,10 @@ returns-in_default-2-clause-made g c = λ script handed on seats.
     (λ h. (goal.Hook-dyn g (h.vtable, h.value)).asked h.value) (λ h. (goal.Hook-dyn g (h.vtable, h.value)).planned h.value) in
     let plan = plan_of (script_run script) in
     let all = told-so log _ (c.in_ok-end.ensures.came (closing_step gs)) in
-    some-and _ log (trace_in log) all.0
-    (run-ended script c.args.how handed c.args.turns gs first c.requires.may_run on c.in_ok-end.end d p (trace_in log) all.1.0
-    (inl c.in_default.is-0)
-    (λ tell. planned-to tells c.in_ok-end.end plan hooks gone (trace_in log) (told-now log _ all.0
-    (c.in_ok-end.ensures.told plan (have-plans c.args.seats.now.hooks.items tells script.plans handed seats tell)))), all.1.1)
+    some-and _ log (trace_in log) all.0 (
+      run-ended script c.args.how handed c.args.turns gs first c.requires.may_run on c.in_ok-end.end d p (trace_in log) all.1.0
+          (inl c.in_default.is-0)
+          (λ tell. planned-to tells c.in_ok-end.end plan hooks gone (trace_in log) (told-now log _ all.0
+          (c.in_ok-end.ensures.told plan (have-plans c.args.seats.now.hooks.items tells script.plans handed seats tell)))),
+      all.1.1,
+    )
