@@ -153,6 +153,24 @@ module _ (set : NumberSetValue) (l l' : Agenda) (s s' : State) (opened : s'.plai
         (named-same table n s s' here.0 (h.named n (subst (λ m. n < m) opened lt) both.1), here.1);
   }
 
+-- no link changed
+pub kept-same : (l : Agenda) (s s' : State) → s'.plain.opened ≡ s.plain.opened → ((j : ℕ) → SameLink j s s') → IsKept l s → IsKept l s'
+kept-same l s s' opened same h = record {
+  pass_covers = omega (arith, opened, h.pass_covers);
+  close_covers = omega (arith, opened, h.close_covers);
+  want_covers = omega (arith, opened, h.want_covers);
+  live_covers = omega (arith, opened, h.live_covers);
+  still = λ n lt out. still-same (same n) (h.still n (subst (λ m. n < m) opened lt) out);
+  settled = λ n lt out. settled-same (same n) (h.settled n (subst (λ m. n < m) opened lt) out);
+  gone = λ n lt out. gone-same n s s' (same n) (h.gone n (subst (λ m. n < m) opened lt) out);
+}
+
+pub names-same : (l : Agenda) (s s' : State) → s'.plain.opened ≡ s.plain.opened → ((j : ℕ) → SameLink j s s') → KeepsNames l s l s'
+names-same l s s' opened same = λ table h. record {
+  links = omega (arith, opened, h.links);
+  named = λ n lt out. named-same table n s s' (same n) (h.named n (subst (λ m. n < m) opened lt) out);
+}
+
 -- The next link got its places, and was opened or not.
 pub record OpensAtMost (s new : State) : Type 0 where
   pub least : s.plain.opened ≤ new.plain.opened
@@ -256,18 +274,6 @@ pub up-next : (P : ℕ → Type 0) (from to : ℕ) → ((k : ℕ) → k < from �
     k < to + 1 → P k
 up-next P from to below between own = λ k lt.
     by_same k to (λ e t. subst P (sym e) own) (λ e t. up-all P from to below between k (omega (arith, lt, e)))
-
-cleared : (b x : Bool) → x ≡ false → (if b then false else x) ≡ false
-cleared true x h = refl
-cleared false x h = h
-
--- a link was taken out of the set, and none before it was in it
-pub untold-next : (set left : NumberSetValue) (from k : ℕ) → ((n : ℕ) → left.has n ≡ (if n == k then false else set.has n)) →
-    IsUntold set 0 from → IsUntold set from k → IsUntold left 0 (k + 1)
-untold-next set left from k has before between = λ n a b.
-    up-next (λ j. left.has j ≡ false) from k (λ j lt. has j ∙ cleared (j == k) (set.has j) (before j (omega arith) lt))
-    (λ j le lt. has j ∙ cleared (j == k) (set.has j) (between j le lt))
-    (has k ∙ ap (λ z. if z then false else set.has k) (eq-eqb k k refl)) n b
 
 -- What is not in the new set was not in the old one, and is below a number only if it is not in the set of which all is looked at.
 abbrev pub IsTouchedTo : NumberSetValue → ℕ → NumberSetValue → NumberSetValue → Type 0

@@ -12,7 +12,8 @@ use Rattle.relay_state.specs.Closing.{in_side, out_side}
 use Rattle.relay_drive.specs.Links.{WantsFreely}
 use Rattle.relay_drive.specs.Phases.{want_of, wants_some, wants_of_link, wants_of_links, wanted, links_from}
 use Rattle.number_set.specs.Numbers.{NumberSetValue}
-use Rattle.relay_drive.specs.Agenda.{HoldsBeside, LinkCountsAreFew, SaysOf, WouldSayOf, IsNamedRight, NamedLink, OldRowsStay}
+use Rattle.relay_drive.specs.Agenda.{HoldsBeside, LinkCountsAreFew, SaysOf, WouldSayOf, IsNamedRight}
+use Rattle.relay_drive.specs.Naming.{NamedLink, OldRowsStay}
 use Rattle.relay_drive.proofs.AgendaLemmas.{by_same, up-all}
 use Rattle.relay_drive.proofs.EachLemmas.{links_from-push}
 use Rattle.relay_drive.proofs.PollLemmas.{wants_of_links-push}

@@ -1,6 +1,6 @@
 -- What a drive keeps of its links from turn to turn: at which of them passing and closing have something to do, which are open, and
 -- of which sides the table of wants must be looked at. A set may hold too much, and never too little.
-use Rattle.std.specs.Prelude.{◌≡◌, ◌≢◌, ℕ, ◌*◌, ◌<◌, ◌≤◌, Bool, true, false, ◌==◌, if◌then◌else◌}
+use Rattle.std.specs.Prelude.{◌≡◌, ℕ, ◌<◌, ◌≤◌, Bool, true, false, ◌==◌, if◌then◌else◌}
 use Rattle.token_bucket.specs.declared.limit.Dir.TheVariants as dir
 use Rattle.ev_types.specs.declared.side.SideId.{SideId}
 use Rattle.ev_types.specs.Sides.{number}
@@ -125,24 +125,6 @@ pub record TouchedEach (set : NumberSetValue) (opened : ℕ) (old new : Agenda) 
 abbrev pub SameBesideWants : Agenda → Agenda → Type 0
 SameBesideWants old new = (new.to_pass ≡ old.to_pass) × (new.to_close ≡ old.to_close) × (new.maybe_open ≡ old.maybe_open) ×
     (new.to_name.len ≡ old.to_name.len)
-
--- Of one side the table says what it wants, and of every other one what it said.
-pub record NamedSide (s : State) (e : SideId) (old new : WantsValue) : Type 0 where
-  pub links : new.links ≡ old.links
-  pub own : SaysOf new s e
-  pub others : (n : ℕ) → n ≢ number e → (new.reads n ≡ old.reads n) × (new.writes n ≡ old.writes n)
-
--- of both sides of a link
-pub record NamedLink (s : State) (k : ℕ) (old new : WantsValue) : Type 0 where
-  pub links : new.links ≡ old.links
-  pub near : SaysOf new s (in_side k)
-  pub far : SaysOf new s (out_side k)
-  pub others : (e : SideId) → e.link ≢ k → (new.reads (number e) ≡ old.reads (number e)) × (new.writes (number e) ≡ old.writes (number e))
-
--- the table is no shorter, and says what it said of each link that it had
-pub record OldRowsStay (old new : WantsValue) : Type 0 where
-  pub links : old.links ≤ new.links
-  pub rows : (n : ℕ) → n < 2 * old.links → (new.reads n ≡ old.reads n) × (new.writes n ≡ old.writes n)
 
 -- What was kept is kept, of every table too: from a state and the sets that stood for it to another state and its sets.
 abbrev pub KeepsNames : Agenda → State → Agenda → State → Type 0

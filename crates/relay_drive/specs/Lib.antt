@@ -11,6 +11,7 @@ pub mod Known
 pub mod Advances
 pub mod DriveValue
 pub mod Agenda
+pub mod Naming
 pub mod Asked
 pub mod DriveView
 pub mod Seats

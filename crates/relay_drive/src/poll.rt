@@ -6,7 +6,8 @@ ghost use Rattle.ev_port.specs.Polling.{ready_events};
 ghost use Rattle.ev_port.specs.Table.{named, RowsStay};
 ghost use Rattle.relay_drive.specs.Phases.{wanted, CutPoll, CutPolling, AllOpened};
 ghost use Rattle.relay_drive.specs.Known.{Point, begun_if};
-ghost use Rattle.relay_drive.specs.Agenda.{IsKept, IsNamed, MayBeNamed, CountsAreFew, NamedSide, NamedLink, OldRowsStay, SameBesideWants};
+ghost use Rattle.relay_drive.specs.Agenda.{IsKept, IsNamed, MayBeNamed, CountsAreFew, SameBesideWants};
+ghost use Rattle.relay_drive.specs.Naming.{NamedSide, NamedLink, OldRowsStay};
 ghost use Rattle.relay_drive.specs.PollPhase.{PollsListed, PollsAndAcceptsListed};
 ghost use Rattle.relay_drive.specs.Moves.{Moves, GetsTo, OnlyForMemory};
 
