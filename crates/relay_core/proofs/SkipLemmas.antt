@@ -15,7 +15,7 @@ use Rattle.relay_state.specs.Running.{held_at}
 use Rattle.relay_state.specs.Closing.{in_side, out_side}
 use Rattle.relay_state.specs.Rooms.{wants, allowance}
 use Rattle.relay_state.specs.Time.{expiry, limit_gain, timed, side_timed}
-use Rattle.relay_core.specs.Timeless.{leaves_some, IsTimelessSide, AreTimeless}
+use Rattle.relay_core.specs.Timeless.{leaves_some, IsStillSide, AreTimeless}
 use Rattle.relay_core.specs.Waits.{is_expired, expiries, gain_of, gains}
 use Rattle.relay_core.proofs.TimeLemmas.{sides_from-more}
 
@@ -47,7 +47,7 @@ skips-all f n from le none =
     let over : n - n ≡ 0 = omega arith in
     skips f n from n le (omega arith) none ∙ ap (λ m. f (sides_from n m)) over
 
-module _ (s : State) (e : SideId) (h : IsTimelessSide s e) where
+module _ (s : State) (e : SideId) (h : IsStillSide s e) where
   not_timed : (d : Dir) → is_timed (side_at s.plain e) d ≡ false
   not_timed dir.Read = h.reads
   not_timed dir.Write = h.writes

@@ -24,7 +24,8 @@ invariant_of-self-inside c =
         gauges = λ i d lt. let p = h.timed.gauges i d lt in omega (arith, p, later);
       };
       grouped = h.grouped;
-      watching = watching-later r.watched r.time r.sides.links r.groups.value.members h.watching to later;
+      watching = watching-later r.watched r.time r.sides.links r.groups.value h.watching to later;
+      grouping = h.grouping;
       time = (let bound = h.time in omega (arith, bound, c.max-self-inside-inside.ensures, c.min.ensures));
       few = h.few;
       room = h.room;
