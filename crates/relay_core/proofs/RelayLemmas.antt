@@ -419,6 +419,10 @@ limited_sound g time u turn k j e cfg none h is =
     let f : PlainSide → PlainSide = λ y. record y { limit = links.limit_set_on x time turn y.limit cfg } in
     let mid : Links = change_side e f k in
     gauge_sound g time u mid j e (gauge_set (links.side_at k e).limit cfg time x)
-    (still_sound g time u k mid e f h (λ p. (p.0, p.1, λ t. let q = p.2 t in
-    (q.0, q.1, ap (links.limit_set_on x time turn (links.side_at k e).limit) (none t)))) refl refl)
+    (still_sound g time u k mid e f h (λ p. (
+      p.0,
+      p.1,
+      λ t. let q = p.2 t in
+          (q.0, q.1, ap (links.limit_set_on x time turn (links.side_at k e).limit) (none t)),
+    )) refl refl)
     (gauge_set-time (links.side_at k e).limit cfg time x) (ap (λ (z : Links). z.sides) is) (ap (λ (z : Links). z.gauges) is)

@@ -139,6 +139,14 @@ leaves-timed z e s d = elim (eqb_tells (number z) (number e)) [
         none_in dir.Read a b = a
         none_in dir.Write a b = b
 
+    within : number z ≡ number e → is_timed (side_at s.plain e) d ≡ true → (b c : Bool) → Leaves z s (if b
+        then with_plain (change_side e (active_at s.plain.time d) s.plain) s
+        else (if c then with_plain (raise s.settings e (happened d timeout_flag) (change_side e (expire d) s.plain)) s else s))
+    within here is true c = own here is (active_at s.plain.time d (side_at s.plain e)) (λ v. active-timed s.plain.time d v (side_at s.plain e))
+    within here is false true = raised (expire d (side_at s.plain e))
+        (own here is (expire d (side_at s.plain e)) (λ v. expire-timed d v (side_at s.plain e)))
+    within here is false false = leaves-same z s
+
     at : number z ≡ number e → (t : Bool) → is_timed (side_at s.plain e) d ≡ t → Leaves z s (timed e s d)
     at here false is = subst (λ b. Leaves z s (if not b then s
         else (if not (wants s e d) then with_plain (change_side e (active_at s.plain.time d) s.plain) s
@@ -150,14 +158,6 @@ leaves-timed z e s d = elim (eqb_tells (number z) (number e)) [
         else (if has_run_out (side_at s.plain e) d s.plain.time
         then with_plain (raise s.settings e (happened d timeout_flag) (change_side e (expire d) s.plain)) s
         else s)))) (sym is) (within here is (not (wants s e d)) (has_run_out (side_at s.plain e) d s.plain.time))
-
-    within : number z ≡ number e → is_timed (side_at s.plain e) d ≡ true → (b c : Bool) → Leaves z s (if b
-        then with_plain (change_side e (active_at s.plain.time d) s.plain) s
-        else (if c then with_plain (raise s.settings e (happened d timeout_flag) (change_side e (expire d) s.plain)) s else s))
-    within here is true c = own here is (active_at s.plain.time d (side_at s.plain e)) (λ v. active-timed s.plain.time d v (side_at s.plain e))
-    within here is false true = raised (expire d (side_at s.plain e))
-        (own here is (expire d (side_at s.plain e)) (λ v. expire-timed d v (side_at s.plain e)))
-    within here is false false = leaves-same z s
 
 leaves-fold : {A : Type 0} (z : SideId) (f : State → A → State) → ((s : State) (x : A) → Leaves z s (f s x)) → (s : State) (xs : List A) →
     Leaves z s (fold f s xs)

@@ -12,7 +12,7 @@ use Rattle.relay_state.specs.Closing.{in_side, out_side}
 use Rattle.relay_drive.specs.Links.{WantsFreely}
 use Rattle.relay_drive.specs.Phases.{want_of, wants_some, wants_of_link, wants_of_links, wanted, links_from}
 use Rattle.number_set.specs.Numbers.{NumberSetValue}
-use Rattle.relay_drive.specs.Agenda.{HoldsBeside, LinkCountsAreFew, SaysOf, WouldSayOf, IsNamedRight}
+use Rattle.relay_drive.specs.Agenda.{HoldsBeside, LinkCountsAreFew, SaysOf, WouldSayOf, MayBeNamedRight, IsNamedRight}
 use Rattle.relay_drive.specs.Naming.{NamedLink, OldRowsStay}
 use Rattle.relay_drive.proofs.AgendaLemmas.{by_same, up-all}
 use Rattle.relay_drive.proofs.EachLemmas.{links_from-push}
@@ -72,20 +72,26 @@ named-next t new set left s k again within n has near free h = λ j lt out.
     by_same j k
     (λ e test.
     let freely = free (sym (has j ∙ ap (λ z. if z then again else set.has j) test) ∙ out) in
-    let would = λ (e : SideId) (here : e.link ≡ k) (x : SaysOf new s e).
-    (x.0 ∙ freely e here dir.Read, x.1 ∙ freely e here dir.Write) in
-    subst (IsNamedRight new s) (sym e) ((
+    let would : (e : SideId) → e.link ≡ k → SaysOf new s e → WouldSayOf new s e =
+    λ e here x. (x.0 ∙ freely e here dir.Read, x.1 ∙ freely e here dir.Write) in
+    let may : MayBeNamedRight new s k = (
       subst (λ m. k < m) (sym n.links) within,
       would (in_side k) refl n.near,
       would (out_side k) refl n.far,
       near,
-    ), freely))
-    (λ e test. let before = h j lt (sym (has j ∙ ap (λ z. if z then again else set.has j) test) ∙ out) in ((
+    ) in
+    let own : IsNamedRight new s k = (may, freely) in
+    subst (IsNamedRight new s) (sym e) own)
+    (λ e test.
+    let before = h j lt (sym (has j ∙ ap (λ z. if z then again else set.has j) test) ∙ out) in
+    let may : MayBeNamedRight new s j = (
       subst (λ m. j < m) (sym n.links) before.0.0,
       others-would t new s k (in_side j) n e before.0.1,
       others-would t new s k (out_side j) n e before.0.2,
       before.0.3,
-    ), before.1))
+    ) in
+    let other : IsNamedRight new s j = (may, before.1) in
+    other)
 
 -- and the table says what the sides want of all links up to it
 pub said-next : (t new : WantsValue) (s : State) (from k : ℕ) → NamedLink s k t new →
@@ -105,9 +111,12 @@ pub named-lengthened : (t new : WantsValue) (set : NumberSetValue) (s : State) �
 named-lengthened t new set s r h = λ k lt out.
     let before = h k lt out in
     let near = r.rows (number (in_side k)) (omega (arith, before.0.0)) in
-    let far = r.rows (number (out_side k)) (omega (arith, before.0.0)) in ((
+    let far = r.rows (number (out_side k)) (omega (arith, before.0.0)) in
+    let may : MayBeNamedRight new s k = (
       omega (arith, before.0.0, r.links),
       (near.0 ∙ before.0.1.0, near.1 ∙ before.0.1.1),
       (far.0 ∙ before.0.2.0, far.1 ∙ before.0.2.1),
       before.0.3,
-    ), before.1)
+    ) in
+    let right : IsNamedRight new s k = (may, before.1) in
+    right

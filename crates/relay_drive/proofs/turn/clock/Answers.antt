@@ -1,6 +1,7 @@
 use Rattle.std.proofs.Common.{◌≡◌, ℕ, ◌<◌, false, sym, ◌∙◌, ap, subst, arith}
 use Rattle.ev_types.specs.declared.side.SideId.{SideId}
-use Rattle.relay_drive.specs.Links.{SameLink, IsTimelessLink}
+use Rattle.relay_core.specs.RelayValue.{RelayValue}
+use Rattle.relay_drive.specs.Agenda.{TouchedEach, IsKept, TellsNames}
 use Rattle.relay_drive.proofs.AgendaLemmas.{kept-each, names-each}
 use Rattle.relay_drive.proofs.WantLemmas.{wants_freely}
 use Rattle.relay_drive.proofs.turn.clock.Goals as goal
@@ -9,7 +10,25 @@ pub returns-clause-kept : goal.returns-clause-kept
 returns-clause-kept g c =
     let old = c.args.run.now.relay.state in
     let new = c.read_clock.new.run.relay.state in
-    let still = λ (n : ℕ) (lt : n < new.plain.opened) (out : c.watched.result.now.has n ≡ false). c.in_ok-read_clock.ensures.still n
-    (λ e here. c.watched.ensures e (omega (arith, here, lt)) (subst (λ m. c.watched.result.now.has m ≡ false) (sym here) out)) in
-    kept-each c.watched.result.now c.args.agenda.now c.touch_each.new.self old new c.in_ok-read_clock.ensures.opened
-    c.touch_each.ensures still c.requires.kept
+    let set = c.watched.result.now in
+    let agenda = c.touch_each.new.self in
+    let done = c.in_ok-read_clock.ensures in
+    let timeless = λ (n : ℕ) (lt : n < new.plain.opened) (out : set.has n ≡ false) (e : SideId) (here : e.link ≡ n).
+    c.watched.ensures e (omega (arith, here, lt)) (subst (λ m. set.has m ≡ false) (sym here) out) in
+    let touched = subst (λ n. TouchedEach set n c.args.agenda.now agenda) c.opened-opened.ensures.count c.touch_each.ensures in
+    subst (λ (r : RelayValue). IsKept agenda r.state) (sym c.forget_timeless.ensures)
+    (kept-each set c.args.agenda.now agenda old new done.opened touched (λ n lt out. done.still n (timeless n lt out)) c.requires.kept)
+
+pub returns-clause-named : goal.returns-clause-named
+returns-clause-named g c =
+    let old = c.args.run.now.relay.state in
+    let new = c.read_clock.new.run.relay.state in
+    let set = c.watched.result.now in
+    let agenda = c.touch_each.new.self in
+    let done = c.in_ok-read_clock.ensures in
+    let timeless = λ (n : ℕ) (lt : n < new.plain.opened) (out : set.has n ≡ false) (e : SideId) (here : e.link ≡ n).
+    c.watched.ensures e (omega (arith, here, lt)) (subst (λ m. set.has m ≡ false) (sym here) out) in
+    let touched = subst (λ n. TouchedEach set n c.args.agenda.now agenda) c.opened-opened.ensures.count c.touch_each.ensures in
+    subst (λ (r : RelayValue). TellsNames c.args.agenda.now old agenda r.state) (sym c.forget_timeless.ensures)
+    (names-each set c.args.agenda.now agenda old new done.opened touched
+    (λ n lt out. let t = timeless n lt out in (done.still n t, wants_freely new n t)))

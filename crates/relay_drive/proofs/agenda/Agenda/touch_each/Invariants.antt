@@ -9,10 +9,10 @@ invariant-loop-link l = record {
   close_len : l.self.to_close.len ≡ l.fn.self.to_close.len;
   want_len : l.self.to_name.len ≡ l.fn.self.to_name.len;
   live_len : l.self.maybe_open.len ≡ l.fn.self.maybe_open.len;
-  to_pass : IsTouchedTo l.set.now l.from l.fn.self.to_pass l.self.to_pass;
-  to_close : IsTouchedTo l.set.now l.from l.fn.self.to_close l.self.to_close;
-  to_name : IsTouchedTo l.set.now l.from l.fn.self.to_name l.self.to_name;
-  maybe_open : IsTouchedTo l.set.now l.from l.fn.self.maybe_open l.self.maybe_open;
+  to_pass : IsTouchedTo l.set l.from l.fn.self.to_pass l.self.to_pass;
+  to_close : IsTouchedTo l.set l.from l.fn.self.to_close l.self.to_close;
+  to_name : IsTouchedTo l.set l.from l.fn.self.to_name l.self.to_name;
+  maybe_open : IsTouchedTo l.set l.from l.fn.self.maybe_open l.self.maybe_open;
 }
 
 abbrev pub decreases-loop-link : goal.decreases-loop-link
