@@ -14,7 +14,8 @@ use Rattle.token_bucket.specs.Levels.{limit_of, refilled, held}
 use Rattle.ev_types.specs.declared.side.SideId.{SideId}
 use Rattle.ev_types.specs.Sides.{number}
 use Rattle.rate_group.specs.GroupValue.{GroupValue, GroupsValue}
-use Rattle.rate_group.specs.Steps.{lane_of, group_of, left, joined, spent, spent_in, changed_at, all_refilled, refilled_to, share_of, share_in}
+use Rattle.rate_group.specs.Steps.{lane_of, group_of, left, joined, spent, spent_in, changed_at, all_refilled, refilled_to, share_of}
+use Rattle.rate_group.specs.Steps.{share_in}
 use Rattle.rate_group.specs.Steps.{count_in}
 use Rattle.rate_group.proofs.KnownMembers.{group-insert}
 use Rattle.relay_state.specs.Opening.{joined_where}
@@ -103,9 +104,11 @@ lane-refilled false b h = refl
 group-refilled : (time : ℕ) (g : GroupValue) → is_halted_group g ≡ false → is_halted_group (refilled_to time g) ≡ false
 group-refilled time g h =
     let parts = or_parts g.read.suspended g.write.suspended h in
-    let r = lane-refilled g.read.suspended (nat_lt (held (refilled (limit_of g.cfg dir.Read) (time / g.cfg.tick_ms - g.tick) g.read.level)) g.least)
+    let r = lane-refilled g.read.suspended
+    (nat_lt (held (refilled (limit_of g.cfg dir.Read) (time / g.cfg.tick_ms - g.tick) g.read.level)) g.least)
     parts.0 in
-    let w = lane-refilled g.write.suspended (nat_lt (held (refilled (limit_of g.cfg dir.Write) (time / g.cfg.tick_ms - g.tick) g.write.level)) g.least)
+    let w = lane-refilled g.write.suspended
+    (nat_lt (held (refilled (limit_of g.cfg dir.Write) (time / g.cfg.tick_ms - g.tick) g.write.level)) g.least)
     parts.1 in
     λ i. r i || w i
 
@@ -214,4 +217,3 @@ unhalted_by member x r w = go (group_of member x.members) r w
         halted_in x.groups o ≡ false
     go None a b = refl
     go (Some n) a b = at (count_in n x.members) (slice_get x.groups n) a b
-

@@ -2,7 +2,8 @@
 -- they were.
 use Rattle.std.specs.Prelude.{slice_index_or, slice_set, option_map, if◌then◌else◌, is_some, not}
 use Rattle.std.proofs.Common.{◌≡◌, ◌≢◌, ℕ, zero, suc, ◌+◌, ◌-◌, ◌*◌, ◌/◌, ◌<◌, ◌≤◌, ◌==◌, Bool, true, false, ◌&&◌, ◌||◌, nat_le, nat_eq}
-use Rattle.std.proofs.Common.{List, [], ◌∷◌, ◌++◌, length, Option, Some, None, Result, Ok, Err, MatchResult, inl, inr, refl, sym, ◌∙◌, ap, subst, arith}
+use Rattle.std.proofs.Common.{List, [], ◌∷◌, ◌++◌, length, Option, Some, None, Result, Ok, Err, MatchResult, inl, inr, refl, sym, ◌∙◌, ap}
+use Rattle.std.proofs.Common.{subst, arith}
 use Rattle.std.proofs.Math.Nat.{mul-le-mul_left}
 use Rattle.std.proofs.lemmas.Bool.{eqb-true, eqb-false, eq-eqb, le-leb, leb-true, or_parts}
 use Rattle.std.proofs.lemmas.Bool.Decides.{eqb_tells}
@@ -35,7 +36,8 @@ use Rattle.relay_core.specs.RelayView.{IsSound, IsSoundSide}
 use Rattle.relay_core.specs.declared.ctl.Ctl.TheInside.{Inside}
 use Rattle.relay_core.proofs.RelayLemmas.{still_sound}
 use Rattle.relay_core.specs.Timeless.{leaves_some, left_by, is_halted, IsTimeless, IsWatching, IsGrouping}
-use Rattle.relay_core.proofs.HaltLemmas.{left-keeps, joined-keeps, joined_where-keeps, halted-joined, halted-none, halted-refilled, halted-spent}
+use Rattle.relay_core.proofs.HaltLemmas.{left-keeps, joined-keeps, joined_where-keeps, halted-joined, halted-none, halted-refilled}
+use Rattle.relay_core.proofs.HaltLemmas.{halted-spent}
 
 -- Sides
 
@@ -139,13 +141,16 @@ module _ (w : NumberSetValue) (time : ℕ) (k : Links) (x : GroupsValue) (h : Is
   pub watching-alike : (j : Links) (e : SideId) (y : PlainSide) → j.sides ≡ slice_set k.sides (number e) y →
       IsAlike (links.side_at k e) y → j.gauges ≡ k.gauges → j.opened ≡ k.opened → IsWatching w time j x
   watching-alike j e y sides like gauges opened =
-      watching-at w j x refl opened (λ z under out. (out, λ p.
-      let P : PlainSide → Type 0 = λ u. IsTimeless time u (links.gauge_at k z) (is_halted (number z) x) in
-      let moved : P (links.side_at j z) = subst (λ xs. P (slice_index_or xs (number z) no_side)) (sym sides)
-      (set-keeps P k.sides (number e) (number z) y
-      (λ same q. timeless-alike time (links.side_at k e) y (links.gauge_at k z) (is_halted (number z) x) like q) p) in
-      subst (λ xs. IsTimeless time (links.side_at j z) (slice_index_or xs (number z) no_gauge) (is_halted (number z) x))
-      (sym gauges) moved))
+      watching-at w j x refl opened (λ z under out. (
+        out,
+        λ p.
+            let P : PlainSide → Type 0 = λ u. IsTimeless time u (links.gauge_at k z) (is_halted (number z) x) in
+            let moved : P (links.side_at j z) = subst (λ xs. P (slice_index_or xs (number z) no_side)) (sym sides)
+            (set-keeps P k.sides (number e) (number z) y
+            (λ same q. timeless-alike time (links.side_at k e) y (links.gauge_at k z) (is_halted (number z) x) like q) p) in
+            subst (λ xs. IsTimeless time (links.side_at j z) (slice_index_or xs (number z) no_gauge) (is_halted (number z) x))
+            (sym gauges) moved,
+      ))
 
   -- with one side changed so by a function
   pub watching-changed : (j : Links) (e : SideId) (f : PlainSide → PlainSide) → j ≡ change_side e f k →
@@ -167,9 +172,11 @@ module _ (w : NumberSetValue) (time : ℕ) (k : Links) (x : GroupsValue) (h : Is
       let side : links.side_at j z ≡ links.side_at k z = ap (λ xs. slice_index_or xs (number z) no_side) sides
       ∙ get_or-set_other k.sides (number e) (number z) y no_side differ in
       let gauge : links.gauge_at j z ≡ links.gauge_at k z = ap (λ xs. slice_index_or xs (number z) no_gauge) gauges
-      ∙ get_or-set_other k.gauges (number e) (number z) g no_gauge differ in
-      (sym (ap (λ b. if b then true else w.has z.link) apart) ∙ sym (has z.link) ∙ out, λ p.
-      timeless-parts time (sym side) (sym gauge) (p.unhalted ∙ sym (groups z other p.unhalted)) p))
+      ∙ get_or-set_other k.gauges (number e) (number z) g no_gauge differ in (
+        sym (ap (λ b. if b then true else w.has z.link) apart) ∙ sym (has z.link) ∙ out,
+        λ p.
+            timeless-parts time (sym side) (sym gauge) (p.unhalted ∙ sym (groups z other p.unhalted)) p,
+      ))
     where
       go : (b c : Bool) → (if b then true else c) ≡ false → b ≡ false
       go true c q = q
@@ -199,9 +206,10 @@ module _ (w : NumberSetValue) (time : ℕ) (k : Links) (x : GroupsValue) (h : Is
             (ap w.has here.1 ∙ parts.1, λ p. timeless-parts time (sym side) (sym gauge) refl p)
         | inr other ↦
             let gauge : links.gauge_at j z ≡ links.gauge_at k z = ap (λ xs. slice_index_or xs (number z) no_gauge) gauges
-            ∙ get_or-set_other k.gauges (number e) (number z) _ no_gauge (numbers-differ e z other.1) in
-            (sym (ap (λ b. if b then limited || w.has e.link else w.has z.link) other.0) ∙ sym (has z.link) ∙ out,
-            λ p. timeless-parts time (sym side) (sym gauge) refl p)
+            ∙ get_or-set_other k.gauges (number e) (number z) _ no_gauge (numbers-differ e z other.1) in (
+              sym (ap (λ b. if b then limited || w.has e.link else w.has z.link) other.0) ∙ sym (has z.link) ∙ out,
+              λ p. timeless-parts time (sym side) (sym gauge) refl p,
+            )
       ])
     where
       unlimited : (l : Option Standing) (x : Gauge) (d : Dir) (n : ℕ) → is_some (left_by l x d time) ≡ false →
@@ -294,7 +302,8 @@ watching-refilled w time ms k x y is h = subst (IsWatching w time k) (sym is) (r
 })
 
 -- A member moved bytes. Where its share is nothing then, all members are watched.
-pub watching-shared : (w v grouped : NumberSetValue) (time : ℕ) (k : Links) (x y : GroupsValue) (mover : ℕ) (d : Dir) (n : ℕ) (free : Bool) →
+pub watching-shared : (w v grouped : NumberSetValue) (time : ℕ) (k : Links) (x y : GroupsValue) (mover : ℕ) (d : Dir) (n : ℕ)
+    (free : Bool) →
     IsWatching w time k x → IsGrouping grouped k.opened x.members → v.len ≡ w.len →
     ((m : ℕ) → m < w.len → v.has m ≡ ((not free && grouped.has m) || w.has m)) →
     y ≡ spent mover d n x → free ≡ leaves_some (share_in mover d y) → IsWatching v time k y
@@ -337,7 +346,8 @@ grouping-left g n member members new is h = record {
 
 -- a side joined one, and its link is among those with members
 pub grouping-joined : (g new : NumberSetValue) (n : ℕ) (e : SideId) (group : ℕ) (x y : GroupsValue) → y ≡ joined group (number e) x →
-    ((m : ℕ) → new.has m ≡ (if m == e.link then true else g.has m)) → new.len ≡ g.len → IsGrouping g n x.members → IsGrouping new n y.members
+    ((m : ℕ) → new.has m ≡ (if m == e.link then true else g.has m)) → new.len ≡ g.len →
+    IsGrouping g n x.members → IsGrouping new n y.members
 grouping-joined g new n e group x y is has len h = record {
   covers = let covers = h.covers in omega (arith, covers, len);
   beside = λ z below out. elim (eqb_tells z.link e.link) [

@@ -33,7 +33,8 @@ use Rattle.relay_drive.specs.Asked.{link_changed, link_changed_by, IsAskedElsewh
 use Rattle.relay_drive.specs.Links.{SameLink, has_spent_count_from, has_spent_count}
 use Rattle.relay_drive.proofs.DispatchLemmas.{one-leaves, one-done}
 use Rattle.relay_drive.proofs.MeantFolds.{Each_is}
-use Rattle.relay_drive.proofs.OtherLinks.{same_link, same_link-then, same_link-is, by_parts, by_gauges, by_groups, parts-side, freed-other, same-waits}
+use Rattle.relay_drive.proofs.OtherLinks.{same_link, same_link-then, same_link-is, by_parts, by_gauges, by_groups, parts-side}
+use Rattle.relay_drive.proofs.OtherLinks.{freed-other, same-waits}
 use Rattle.relay_drive.proofs.OtherLinks.{raise_read-other, raise_write-other, by_leaving}
 
 -- Links that an ask changes

@@ -18,10 +18,12 @@ invariant_of-self c =
     let k = r.sides.links in
     let e = c.args.side in
     record {
-      timed = still_sound r.settings r.time r.untimed k c.free.new.self.links e (λ x. record x { live = false; group = None }) h.timed (λ p. p)
+      timed = still_sound r.settings r.time r.untimed k c.free.new.self.links e (λ x. record x { live = false; group = None }) h.timed
+          (λ p. p)
           (ap (λ (z : Links). z.sides) c.free.ensures) (ap (λ (z : Links). z.gauges) c.free.ensures);
       grouped = left_sound r.given r.untimed r.groups.value c.leave.new.groups.value (number e) h.grouped c.leave.ensures;
-      watching = watching-more r.watched r.time k r.groups.value h.watching c.insert.new.self c.free.new.self.links c.leave.new.groups.value e
+      watching = watching-more r.watched r.time k r.groups.value h.watching c.insert.new.self c.free.new.self.links
+          c.leave.new.groups.value e
           (record (links.side_at k e) { live = false; group = None }) (links.gauge_at k e) c.insert.ensures.members c.insert.ensures.len
           (ap (λ (z : Links). z.sides) c.free.ensures)
           (ap (λ (z : Links). z.gauges) c.free.ensures ∙ sym (set-get_or k.gauges (number e) no_gauge))

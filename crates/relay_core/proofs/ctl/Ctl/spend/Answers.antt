@@ -25,9 +25,11 @@ invariant_of-self c =
           (ap (λ (z : Links). z.sides) c.spend.ensures.links) (ap (λ (z : Links). z.gauges) c.spend.ensures.links);
       grouped = spent_sound r.given r.untimed r.groups.value c.spend_share.new.groups.value c.number.result c.args.dir
           c.args.count h.grouped c.spend_share.ensures;
-      watching = watching-shared c.watch_where.new.watched c.watch_all_where.new.watched r.grouped r.time c.spend.new.self.links r.groups.value
+      watching = watching-shared c.watch_where.new.watched c.watch_all_where.new.watched r.grouped r.time
+          c.spend.new.self.links r.groups.value
           c.spend_share.new.groups.value c.number.result c.args.dir c.args.count c.leaves_some-free.result
-          (watching-spent r.watched r.time k r.groups.value h.watching c.watch_where.new.watched c.spend.new.self.links e c.args.dir c.args.count
+          (watching-spent r.watched r.time k r.groups.value h.watching c.watch_where.new.watched c.spend.new.self.links e
+          c.args.dir c.args.count
           c.is_some-limited.result c.watch_where.ensures.members c.watch_where.ensures.len
           (c.is_some-limited.ensures ∙ ap is_some c.allowance.ensures) c.spend.ensures.links)
           (grouping-at r.grouped k.opened c.spend.new.self.links.opened r.groups.value.members

@@ -11,7 +11,8 @@ invariant_of-self-inside c =
     let h = c.self-inside.invariant in
     record {
       timed = h.timed;
-      grouped = refilled_sound r.given r.untimed r.groups.value c.refill.new.self.value c.turn_to-time.result h.grouped c.refill.ensures.value;
+      grouped = refilled_sound r.given r.untimed r.groups.value c.refill.new.self.value c.turn_to-time.result h.grouped
+          c.refill.ensures.value;
       watching = watching-refilled r.watched r.time c.turn_to-time.result r.sides.links r.groups.value c.refill.new.self.value
           c.refill.ensures.value h.watching;
       grouping = subst (λ (z : GroupsValue). IsGrouping r.grouped r.sides.links.opened z.members) (sym c.refill.ensures.value) h.grouping;

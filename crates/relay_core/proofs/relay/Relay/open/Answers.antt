@@ -32,7 +32,8 @@ invariant_of-ctl c =
           (ap (λ (e : SideId). e.link) c.peer.ensures ∙ c.opened.ensures.count) c.join_where.ensures.value
           c.join_where-2.ensures.value;
       grouping = grouping-opened r.grouped c.insert-2.new.self r.sides.links.opened c.open.new.self.links.opened
-          (record { link = c.opened.result; side = In }) c.peer.result c.near_side-near.result.group c.far_side-far.result.group r.groups.value
+          (record { link = c.opened.result; side = In }) c.peer.result c.near_side-near.result.group c.far_side-far.result.group
+          r.groups.value
           c.join_where.new.groups.value c.join_where-2.new.groups.value (ap (λ (z : Links). z.opened) c.open.ensures.links) (search rules)
           c.opened.ensures.count
           (ap (λ (e : SideId). e.link) c.peer.ensures ∙ c.opened.ensures.count) c.join_where.ensures.value c.join_where-2.ensures.value

@@ -20,7 +20,8 @@ invariant_of-self-inside c =
     record {
       timed = record {
         unset = h.timed.unset;
-        sides = λ i d lt. let p = h.timed.sides i d lt in let a = p.0 in let b = p.1 in (omega (arith, a, later), omega (arith, b, later), p.2);
+        sides = λ i d lt. let p = h.timed.sides i d lt in let a = p.0 in let b = p.1 in
+            (omega (arith, a, later), omega (arith, b, later), p.2);
         gauges = λ i d lt. let p = h.timed.gauges i d lt in omega (arith, p, later);
       };
       grouped = h.grouped;
