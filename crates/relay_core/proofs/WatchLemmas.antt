@@ -454,10 +454,6 @@ pub much_enabled : (d : Dir) (on : Bool) (x : PlainSide) → IsMuchAlike x (enab
 much_enabled dir.Read on x = record { alike = alike-enabled dir.Read on x; read = refl; write = refl }
 much_enabled dir.Write on x = record { alike = alike-enabled dir.Write on x; read = refl; write = refl }
 
--- where the four parts and both moments are the same by definition
-pub plainly : (x : PlainSide) → IsMuchAlike x x
-plainly x = record { alike = alike x; read = refl; write = refl }
-
 side_sound : (time : ℕ) (u : Bool) (x y : PlainSide) → IsMuchAlike x y → IsSoundSide time u x → IsSoundSide time u y
 side_sound time u x y a h = (
   subst (λ n. n ≤ time) (sym a.read) h.0,

@@ -29,12 +29,12 @@ left_by limit x d time = option_map (λ y. held_at y.cfg x d time) limit
 abbrev pub is_halted_group : GroupValue → Bool
 is_halted_group g = g.read.suspended || g.write.suspended
 
--- the group of a member is, or is none of the groups
+-- the group of a member is suspended in a direction, or is none of the groups
 abbrev pub is_halted : ℕ → GroupsValue → Bool
 is_halted member x = option_map_or (λ n. option_map_or is_halted_group (slice_get x.groups n) true) (group_of member x.members) false
 
--- At a time a side with these buckets waits for no moment, where its group is halted or not: if it is live it has no timeout, none has
--- passed, and its limit leaves it something. Its group is not halted.
+-- At a time a side with these buckets, whose group is halted or not, waits for no moment: if it is live it has no timeout, none has
+-- passed, and its limit leaves it something; and its group is not halted.
 pub record IsTimeless (time : ℕ) (x : PlainSide) (buckets : Gauge) (halted : Bool) : Type 0 where
   pub reads : is_timed x dir.Read ≡ false
   pub writes : is_timed x dir.Write ≡ false
@@ -42,10 +42,12 @@ pub record IsTimeless (time : ℕ) (x : PlainSide) (buckets : Gauge) (halted : B
   pub allowed : x.live ≡ true → (d : Dir) → leaves_some (left_by x.limit buckets d time) ≡ true
   pub unhalted : halted ≡ false
 
+-- so does this side
 abbrev pub IsStillSide : State → SideId → Type 0
 IsStillSide s e = IsTimeless s.plain.time (side_at s.plain e) (gauge_at s e) (is_halted (number e) s.groups)
 
--- A side waits for no moment: if it is live it has no timeout, none has passed, and its limit leaves it something, as does its group.
+-- What a caller sees of that: if the side is live it has no timeout, none has passed, and its limit leaves it something to move; and so
+-- does its group, where it is in one.
 pub record IsTimelessSide (s : State) (e : SideId) : Type 0 where
   pub reads : is_timed (side_at s.plain e) dir.Read ≡ false
   pub writes : is_timed (side_at s.plain e) dir.Write ≡ false
@@ -53,11 +55,11 @@ pub record IsTimelessSide (s : State) (e : SideId) : Type 0 where
   pub allowed : (side_at s.plain e).live ≡ true → (d : Dir) → leaves_some (allowance s e d) ≡ true
   pub shared : (d : Dir) → leaves_some (share s e d) ≡ true
 
--- and so do the sides of the links from one up to another
+-- no side of the links from one up to another waits for a moment
 abbrev pub AreTimeless : State → ℕ → ℕ → Type 0
 AreTimeless s from to = (e : SideId) → from ≤ e.link → e.link < to → IsStillSide s e
 
--- and those of each opened link that is not in this set
+-- nor, as a caller sees it, one of an opened link that is not in this set
 abbrev pub AreTimelessBeside : NumberSetValue → State → Type 0
 AreTimelessBeside set s = (e : SideId) → e.link < s.plain.opened → set.has e.link ≡ false → IsTimelessSide s e
 
