@@ -1,11 +1,11 @@
 -- Which links are watched stays right: a link is watched where a side of it may begin to wait for a moment, and the other sides are as
 -- they were.
-use Rattle.std.specs.Prelude.{slice_index_or, slice_set, option_map, if◌then◌else◌, is_some, not}
+use Rattle.std.specs.Prelude.{slice_index_or, slice_set, if◌then◌else◌, is_some, not}
 use Rattle.std.proofs.Common.{◌≡◌, ◌≢◌, ℕ, zero, suc, ◌+◌, ◌-◌, ◌*◌, ◌/◌, ◌<◌, ◌≤◌, ◌==◌, Bool, true, false, ◌&&◌, ◌||◌, nat_le, nat_eq}
 use Rattle.std.proofs.Common.{List, [], ◌∷◌, ◌++◌, length, Option, Some, None, Result, Ok, Err, MatchResult, inl, inr, refl, sym, ◌∙◌, ap}
 use Rattle.std.proofs.Common.{subst, arith}
 use Rattle.std.proofs.Math.Nat.{mul-le-mul_left}
-use Rattle.std.proofs.lemmas.Bool.{eqb-true, eqb-false, eq-eqb, le-leb, leb-true, or_parts}
+use Rattle.std.proofs.lemmas.Bool.{eqb-false, le-leb, leb-true, or_parts}
 use Rattle.std.proofs.lemmas.Bool.Decides.{eqb_tells}
 use Rattle.std.proofs.lemmas.List.{get_or-set_other, get_or_append_left, set-get_or}
 use Rattle.std.specs.Map.{remove_entry}

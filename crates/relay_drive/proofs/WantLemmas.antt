@@ -1,5 +1,5 @@
 -- A side that waits for no moment wants what it would want.
-use Rattle.std.specs.Prelude.{◌||◌, min, ◌-◌, length, not, option_map}
+use Rattle.std.specs.Prelude.{◌||◌, min, ◌-◌, length, not}
 use Rattle.std.proofs.Common.{◌≡◌, ℕ, zero, suc, Bool, true, false, ◌&&◌, nat_le, if◌then◌else◌, Option, Some, None, refl, sym, ◌∙◌, ap}
 use Rattle.std.proofs.Common.{arith}
 use Rattle.std.proofs.lemmas.Bool.{le-leb}
@@ -10,9 +10,9 @@ use Rattle.ev_types.specs.Sides.{peer}
 use Rattle.relay_model.specs.Plain.{PlainSide, side_at, is_live}
 use Rattle.relay_model.specs.Rooms.{at_most, most_at_once, read_mark, may_read, may_write, is_connecting}
 use Rattle.relay_state.specs.State.{State}
-use Rattle.relay_state.specs.Rooms.{wants, share, allowance, within_rates, input_length, waiting_for}
+use Rattle.relay_state.specs.Rooms.{share, allowance, within_rates, input_length, waiting_for}
 use Rattle.relay_core.specs.Timeless.{leaves_some, IsTimelessSide}
-use Rattle.relay_drive.specs.Links.{would_want, WantsFreely, IsTimelessLink}
+use Rattle.relay_drive.specs.Links.{WantsFreely, IsTimelessLink}
 
 -- what is cut leaves some where there is some, and the bound leaves some
 at_most-some : (o : Option ℕ) (n : ℕ) → leaves_some o ≡ true → nat_le 1 (at_most o n) ≡ nat_le 1 n

@@ -2,12 +2,11 @@ use Rattle.std.proofs.Common.{◌≡◌, rules, ◌∙◌, Some, sym, ap}
 use Rattle.std.proofs.lemmas.List.{set-get_or}
 use Rattle.ev_types.specs.Sides.{number}
 use Rattle.relay_state.specs.Running.{no_gauge}
-use Rattle.rate_group.specs.GroupValue.{GroupsValue}
 use Rattle.rate_group.specs.Steps.{joined}
 use Rattle.relay_core.specs.Timeless.{is_halted}
 use Rattle.relay_sides.specs.Links as links
 use Rattle.relay_sides.specs.Links.{Links}
-use Rattle.relay_core.proofs.RelayLemmas.{still_sound, asked_groups_sound}
+use Rattle.relay_core.proofs.RelayLemmas.{still_sound}
 use Rattle.relay_core.proofs.HaltLemmas.{halted-joined}
 use Rattle.relay_core.proofs.WatchLemmas.{watching-more, grouping-joined, grouping-at, numbers-differ}
 use Rattle.relay_core.proofs.ctl.Ctl.join_group.Goals as goal

@@ -1,4 +1,4 @@
-use Rattle.std.proofs.Common.{◌≡◌, true, None, rules, ◌∙◌, sym, ap}
+use Rattle.std.proofs.Common.{◌≡◌, true, None, rules, ap}
 use Rattle.relay_sides.specs.Links.{Links}
 use Rattle.relay_core.proofs.RelayLemmas.{lowered, lowered_groups, limited_sound}
 use Rattle.relay_core.proofs.WatchLemmas.{watching-more, grouping-at}

@@ -1,4 +1,4 @@
-use Rattle.std.proofs.Common.{◌≡◌, ◌∙◌, ◌<◌, ap, sym, arith}
+use Rattle.std.proofs.Common.{◌∙◌, sym, arith}
 use Rattle.std.specs.List.{list_any}
 use Rattle.relay_core.specs.Waits.{is_expired}
 use Rattle.relay_core.proofs.TimeLemmas.{any-here, any-more}

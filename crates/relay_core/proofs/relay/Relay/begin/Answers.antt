@@ -1,4 +1,4 @@
-use Rattle.std.proofs.Common.{ap, subst, sym}
+use Rattle.std.proofs.Common.{subst, sym}
 use Rattle.rate_group.specs.GroupValue.{GroupsValue}
 use Rattle.relay_core.specs.Timeless.{IsGrouping}
 use Rattle.relay_core.proofs.RelayLemmas.{refilled_sound}

@@ -1,4 +1,4 @@
-use Rattle.std.proofs.Common.{rules, ◌∙◌, sym, ap}
+use Rattle.std.proofs.Common.{rules}
 use Rattle.relay_core.proofs.WatchLemmas.{watching-fewer}
 use Rattle.relay_core.proofs.relay.Relay.forget_where_timeless.Goals as goal
 
