@@ -5,5 +5,6 @@ pub mod WaitLemmas
 pub mod FireLemmas
 pub mod TimerLemmas
 pub mod AskLemmas
+pub mod HaltLemmas
 pub mod WatchLemmas
 pub mod SkipLemmas

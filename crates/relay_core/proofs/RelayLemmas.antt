@@ -217,20 +217,53 @@ joins-none g u x h e = (below-none g.in_group g.groups.items h.in_group e, below
 
 -- Groups that change so, and no more or fewer, are sound where they were.
 groups_sound : (g : RateGroups) (u : Bool) (x y : GroupsValue) → HasGroups g u x → length y.groups ≡ length x.groups →
-    (x ≡ no_groups → y ≡ no_groups) → HasGroups g u y
-groups_sound g u x y h many none = record {
+    (x ≡ no_groups → y ≡ no_groups) → All (λ (z : GroupValue). 1 ≤ z.least) y.groups → HasGroups g u y
+groups_sound g u x y h many none shares = record {
   many = many ∙ h.many;
   in_group = h.in_group;
   out_group = h.out_group;
   none = λ e. none (h.none e);
   untimed = h.untimed;
+  shares = shares;
 }
+
+-- the least shares stay
+
+abbrev AreShares : List GroupValue → Type 0
+AreShares xs = All (λ (z : GroupValue). 1 ≤ z.least) xs
+
+shares-changed : (n : ℕ) (d : Dir) (m : ℕ) (xs : List GroupValue) → AreShares xs → AreShares (changed_at n (spent_in d m) xs)
+shares-changed n d m [] h = h
+shares-changed zero d m (x ∷ xs) h =
+    All-cons (λ (z : GroupValue). 1 ≤ z.least) (spent_in d m x) xs (one d) (All-tail (λ (z : GroupValue). 1 ≤ z.least) x xs h)
+  where
+    one : (v : Dir) → 1 ≤ (spent_in v m x).least
+    one dir.Read = All-head (λ (z : GroupValue). 1 ≤ z.least) x xs h
+    one dir.Write = All-head (λ (z : GroupValue). 1 ≤ z.least) x xs h
+shares-changed (suc n) d m (x ∷ xs) h =
+    All-cons (λ (z : GroupValue). 1 ≤ z.least) x (changed_at n (spent_in d m) xs) (All-head (λ (z : GroupValue). 1 ≤ z.least) x xs h)
+    (shares-changed n d m xs (All-tail (λ (z : GroupValue). 1 ≤ z.least) x xs h))
+
+shares-spent : (member : ℕ) (d : Dir) (m : ℕ) (x : GroupsValue) → AreShares x.groups → AreShares (spent member d m x).groups
+shares-spent member d m x h = go (group_of member x.members)
+  where
+    go : (o : Option ℕ) → AreShares (option_map_or (λ group. changed_at group (spent_in d m) x.groups) o x.groups)
+    go None = h
+    go (Some k) = shares-changed k d m x.groups h
+
+shares-refilled : (time : ℕ) (xs : List GroupValue) → AreShares xs → AreShares (map (refilled_to time) xs)
+shares-refilled time [] h = h
+shares-refilled time (x ∷ xs) h =
+    All-cons (λ (z : GroupValue). 1 ≤ z.least) (refilled_to time x) (map (refilled_to time) xs)
+    (All-head (λ (z : GroupValue). 1 ≤ z.least) x xs h)
+    (shares-refilled time xs (All-tail (λ (z : GroupValue). 1 ≤ z.least) x xs h))
 
 pub spent_sound : (g : RateGroups) (u : Bool) (x y : GroupsValue) (member : ℕ) (d : Dir) (n : ℕ) → HasGroups g u x → y
     ≡ spent member d n x →
     HasGroups g u y
 spent_sound g u x y member d n h is =
     groups_sound g u x y h (ap (λ (z : GroupsValue). length z.groups) is ∙ spent-many member d n x) (λ e. is ∙ ap (spent member d n) e)
+    (subst (λ (z : GroupsValue). AreShares z.groups) (sym is) (shares-spent member d n x h.shares))
 
 -- sides of a new link join, In first
 pub opened_groups_sound : (g : RateGroups) (u : Bool) (x y z : GroupsValue) (a b : SideId) → HasGroups g u x →
@@ -244,8 +277,14 @@ opened_groups_sound g u x y z a b h first second = record {
       let joins = joins-none g u x h e in
       second ∙ ap (λ o. joined_where o b y) joins.1 ∙ first ∙ ap (λ o. joined_where o a x) joins.0 ∙ h.none e;
   untimed = h.untimed;
+  shares = subst (λ (w : GroupsValue). AreShares w.groups) (sym second) (joined-shares g.out_group b y
+      (subst (λ (w : GroupsValue). AreShares w.groups) (sym first) (joined-shares g.in_group a x h.shares)));
 }
   where
+    joined-shares : (o : Option ℕ) (e : SideId) (w : GroupsValue) → AreShares w.groups → AreShares (joined_where o e w).groups
+    joined-shares None e w p = p
+    joined-shares (Some n) e w p = p
+
     joined-many : (o : Option ℕ) (e : SideId) (w : GroupsValue) → length (joined_where o e w).groups ≡ length w.groups
     joined-many None e w = refl
     joined-many (Some n) e w = refl
@@ -259,6 +298,7 @@ asked_groups_sound g u x y n member h below is = record {
   out_group = h.out_group;
   none = λ e. absurd (let none = ap length e in omega (arith, below, none));
   untimed = h.untimed;
+  shares = subst (λ (w : GroupsValue). AreShares w.groups) (sym is) h.shares;
 }
 
 pub refilled_sound : (g : RateGroups) (u : Bool) (x y : GroupsValue) (time : ℕ) → HasGroups g u x → y ≡ all_refilled time x
@@ -266,9 +306,12 @@ pub refilled_sound : (g : RateGroups) (u : Bool) (x y : GroupsValue) (time : ℕ
 refilled_sound g u x y time h is =
     groups_sound g u x y h (ap (λ (z : GroupsValue). length z.groups) is ∙ length-map (refilled_to time) x.groups)
     (λ e. is ∙ ap (all_refilled time) e)
+    (subst (λ (z : GroupsValue). AreShares z.groups) (sym is) (shares-refilled time x.groups h.shares))
 
 pub left_sound : (g : RateGroups) (u : Bool) (x y : GroupsValue) (member : ℕ) → HasGroups g u x → y ≡ left member x → HasGroups g u y
-left_sound g u x y member h is = groups_sound g u x y h (ap (λ (z : GroupsValue). length z.groups) is) (λ e. is ∙ ap (left member) e)
+left_sound g u x y member h is =
+    groups_sound g u x y h (ap (λ (z : GroupsValue). length z.groups) is) (λ e. is ∙ ap (left member) e)
+    (subst (λ (z : GroupsValue). AreShares z.groups) (sym is) h.shares)
 
 absent-stays : (member : ℕ) (es : List (ℕ × ℕ)) → group_of member es ≡ None → remove_entry (nat_eq member) es ≡ es
 absent-stays member [] e = refl
@@ -365,6 +408,7 @@ lowered_groups x u less y down h = record {
   out_group = h.out_group;
   none = h.none;
   untimed = λ e. h.untimed (down e);
+  shares = h.shares;
 }
 
 -- another limit is set, and none where nothing is timed

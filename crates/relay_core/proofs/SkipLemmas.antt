@@ -1,5 +1,5 @@
 -- Links at which no side waits for a moment are left out, where time is held against sides and where a poll asks for how long to wait.
-use Rattle.std.specs.List.{list_any, flat_map}
+use Rattle.std.specs.List.{list_any}
 use Rattle.std.proofs.Common.{◌≡◌, ℕ, zero, suc, ◌+◌, ◌-◌, ◌<◌, ◌≤◌, ◌==◌, Bool, true, false, ◌&&◌, ◌||◌, not, nat_le, if◌then◌else◌}
 use Rattle.std.proofs.Common.{List, [], ◌∷◌, ◌++◌, fold, Option, Some, None, option_map, refl, sym, ◌∙◌, ap, arith}
 use Rattle.std.proofs.lemmas.Bool.{leb-true, eqb-true}
@@ -13,10 +13,10 @@ use Rattle.relay_model.specs.Moments.{timeout_of, last_activity, is_timed, activ
 use Rattle.relay_state.specs.State.{State, with_plain, gauge_at}
 use Rattle.relay_state.specs.Running.{held_at}
 use Rattle.relay_state.specs.Closing.{in_side, out_side}
-use Rattle.relay_state.specs.Rooms.{wants, allowance}
+use Rattle.relay_state.specs.Rooms.{wants}
 use Rattle.relay_state.specs.Time.{expiry, limit_gain, timed, side_timed}
-use Rattle.relay_core.specs.Timeless.{leaves_some, IsTimelessSide, AreTimeless}
-use Rattle.relay_core.specs.Waits.{is_expired, expiries, gain_of, gains}
+use Rattle.relay_core.specs.Timeless.{leaves_some, IsStillSide}
+use Rattle.relay_core.specs.Waits.{is_expired, expiries, gains}
 use Rattle.relay_core.proofs.TimeLemmas.{sides_from-more}
 
 -- what comes of the sides from one link on comes of those from a later one on, where the sides between them may be left out
@@ -47,7 +47,7 @@ skips-all f n from le none =
     let over : n - n ≡ 0 = omega arith in
     skips f n from n le (omega arith) none ∙ ap (λ m. f (sides_from n m)) over
 
-module _ (s : State) (e : SideId) (h : IsTimelessSide s e) where
+module _ (s : State) (e : SideId) (h : IsStillSide s e) where
   not_timed : (d : Dir) → is_timed (side_at s.plain e) d ≡ false
   not_timed dir.Read = h.reads
   not_timed dir.Write = h.writes

@@ -1,5 +1,6 @@
 -- Where nothing is timed, a turn begins with nothing but its time, and a poll waits for timers alone. Looking at sides opens no link.
-use Rattle.std.proofs.Common.{◌≡◌, ◌≢◌, ◌≤◌, ℕ, zero, suc, ◌==◌, ◌+◌, ◌<◌, ◌-◌, Bool, true, false, ◌&&◌, ◌||◌, nat_le, not, if◌then◌else◌, List, [], ◌∷◌, ◌++◌}
+use Rattle.std.proofs.Common.{◌≡◌, ◌≢◌, ◌≤◌, ℕ, zero, suc, ◌==◌, ◌+◌, ◌<◌, ◌-◌, Bool, true, false, ◌&&◌, ◌||◌, nat_le, not, if◌then◌else◌}
+use Rattle.std.proofs.Common.{List, [], ◌∷◌, ◌++◌}
 use Rattle.std.proofs.Common.{length, map, slice_index_or, Option, Some, option_map, refl, sym, ◌∙◌, ap, arith, fold, append-nil}
 use Rattle.std.specs.List.{list_any, flat_map}
 use Rattle.std.proofs.lemmas.Bool.{le-leb, lt-leb, eqb-true, eqb-false}
@@ -14,7 +15,8 @@ use Rattle.ev_types.specs.Usual.{no_timeouts}
 use Rattle.relay_model.specs.Plain.{Plain, PlainSide, Standing, Timer, no_side, side_at, is_live, sides_from, all_sides, change_side}
 use Rattle.relay_model.specs.Reasons.{has_hook, raise, happened, timeout_flag}
 use Rattle.relay_model.specs.Due.{with_reason}
-use Rattle.relay_model.specs.Moments.{timeout_of, last_activity, is_timed, active_at, both_ways, moment_where, earliest, has_run_out, is_pressing}
+use Rattle.relay_model.specs.Moments.{timeout_of, last_activity, is_timed, active_at, both_ways, moment_where, earliest, has_run_out}
+use Rattle.relay_model.specs.Moments.{is_pressing}
 use Rattle.relay_model.specs.Moments.{expire}
 use Rattle.relay_state.specs.State.{State, with_plain}
 use Rattle.relay_state.specs.Closing.{in_side, out_side}
@@ -201,3 +203,8 @@ any-more p k n h none = ap (list_any p) (sides_from-more k n h) ∙ go (p (in_si
     go true b e = absurd (let wrong : true ≡ false = e in cc)
     go false true e = absurd (let wrong : true ≡ false = e in cc)
     go false false e = refl
+
+-- no direction was active later than the time
+pub last_sound : (time : ℕ) (none : Bool) (d : Dir) (x : PlainSide) → IsSoundSide time none x → last_activity x d ≤ time
+last_sound time none dir.Read x h = h.0
+last_sound time none dir.Write x h = h.1

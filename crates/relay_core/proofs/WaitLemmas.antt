@@ -1,13 +1,17 @@
 -- The earliest of two lists of moments, one after the other, is the lesser of those of each.
-use Rattle.std.proofs.Common.{◌≡◌, ℕ, ◌+◌, ◌-◌, min, List, [], ◌∷◌, ◌++◌, Option, Some, None, refl, sym, ◌∙◌, ap, arith, append-nil}
+use Rattle.std.proofs.Common.{◌≡◌, ℕ, ◌+◌, ◌-◌, ◌≤◌, true, ◌&&◌, min, List, [], ◌∷◌, ◌++◌, Option, Some, None, refl, sym, ◌∙◌, ap, arith}
+use Rattle.std.proofs.Common.{append-nil}
 use Rattle.std.specs.List.{flat_map}
+use Rattle.token_bucket.specs.declared.limit.Dir.{Dir}
 use Rattle.token_bucket.specs.declared.limit.Dir.TheVariants as dir
 use Rattle.ev_types.specs.declared.side.SideId.{SideId}
 use Rattle.token_bucket.specs.Spells.{least_with}
 use Rattle.rate_group.specs.GroupValue.{GroupValue}
 use Rattle.rate_group.specs.Gains as gains
 use Rattle.rate_group.specs.Steps.{count_in}
-use Rattle.relay_model.specs.Moments.{both_ways, earliest}
+use Rattle.relay_model.specs.Moments.{timeout_of, last_activity, is_timed, moment_where, both_ways, earliest}
+use Rattle.relay_model.specs.Plain.{side_at}
+use Rattle.relay_state.specs.Rooms.{wants}
 use Rattle.relay_state.specs.State.{State}
 use Rattle.relay_state.specs.Time.{expiry, group_gains}
 use Rattle.relay_core.specs.Waits.{earlier, wait_until, expiries}
@@ -85,3 +89,13 @@ gains-alike s n (x ∷ xs) = ap (λ z. gains.waiting_gain s.plain.time (count_in
 pub first-earliest : (xs : List ℕ) → gains.first_moment xs ≡ earliest xs
 first-earliest [] = refl
 first-earliest (x ∷ xs) = refl
+
+-- A direction that is wanted and has a timeout may be idle for what is left of that.
+pub wait-idle : (s : State) (e : SideId) (d : Dir) (idle timeout : ℕ) → is_timed (side_at s.plain e) d ≡ true → wants s e d ≡ true →
+    last_activity (side_at s.plain e) d ≤ s.plain.time → idle ≡ s.plain.time - last_activity (side_at s.plain e) d →
+    timeout ≡ timeout_of (side_at s.plain e) d → Some (timeout - idle) ≡ wait_until s.plain.time (expiry s e d)
+wait-idle s e d idle timeout timed wanted past is most =
+    let moment : ℕ = last_activity (side_at s.plain e) d + timeout_of (side_at s.plain e) d in
+    let same : timeout - idle ≡ moment - s.plain.time = omega (arith, past, is, most) in
+    let both : (is_timed (side_at s.plain e) d && wants s e d) ≡ true = λ i. timed i && wanted i in
+    ap Some same ∙ sym (ap (λ b. wait_until s.plain.time (moment_where b moment)) both)

@@ -1,10 +1,11 @@
 -- Which links are watched stays right: a link is watched where a side of it may begin to wait for a moment, and the other sides are as
 -- they were.
-use Rattle.std.specs.Prelude.{slice_index_or, slice_set, option_map, if◌then◌else◌, is_some}
+use Rattle.std.specs.Prelude.{slice_index_or, slice_set, if◌then◌else◌, is_some, not}
 use Rattle.std.proofs.Common.{◌≡◌, ◌≢◌, ℕ, zero, suc, ◌+◌, ◌-◌, ◌*◌, ◌/◌, ◌<◌, ◌≤◌, ◌==◌, Bool, true, false, ◌&&◌, ◌||◌, nat_le, nat_eq}
-use Rattle.std.proofs.Common.{List, [], ◌∷◌, ◌++◌, length, Option, Some, None, Result, Ok, Err, MatchResult, inl, inr, refl, sym, ◌∙◌, ap, subst, arith}
+use Rattle.std.proofs.Common.{List, [], ◌∷◌, ◌++◌, length, Option, Some, None, Result, Ok, Err, MatchResult, inl, inr, refl, sym, ◌∙◌, ap}
+use Rattle.std.proofs.Common.{subst, arith}
 use Rattle.std.proofs.Math.Nat.{mul-le-mul_left}
-use Rattle.std.proofs.lemmas.Bool.{eqb-true, eqb-false, eq-eqb, le-leb, leb-true, or_parts}
+use Rattle.std.proofs.lemmas.Bool.{eqb-false, le-leb, leb-true, or_parts}
 use Rattle.std.proofs.lemmas.Bool.Decides.{eqb_tells}
 use Rattle.std.proofs.lemmas.List.{get_or-set_other, get_or_append_left, set-get_or}
 use Rattle.std.specs.Map.{remove_entry}
@@ -12,12 +13,12 @@ use Rattle.token_bucket.specs.declared.limit.Dir.{Dir}
 use Rattle.token_bucket.specs.declared.limit.Dir.TheVariants as dir
 use Rattle.token_bucket.specs.declared.limit.LimitCfg.{LimitCfg}
 use Rattle.ev_types.specs.declared.side.Side.{Side}
+use Rattle.ev_types.specs.declared.side.Side.TheVariants.{In, Out}
 use Rattle.ev_types.specs.declared.side.SideId.{SideId}
-use Rattle.ev_types.specs.Sides.{number, peer}
+use Rattle.ev_types.specs.Sides.{number, peer, other, half}
 use Rattle.number_set.specs.Numbers.{NumberSetValue}
 use Rattle.rate_group.specs.GroupValue.{GroupsValue}
-use Rattle.rate_group.specs.Steps.{group_of, left, joined}
-use Rattle.rate_group.proofs.KnownMembers.{group-insert}
+use Rattle.rate_group.specs.Steps.{group_of, joined, spent, all_refilled, share_in}
 use Rattle.relay_model.specs.Plain.{PlainSide, Standing, no_side}
 use Rattle.relay_model.specs.Asks.{enabled}
 use Rattle.relay_model.specs.Moments.{active_at}
@@ -34,7 +35,9 @@ use Rattle.relay_sides.specs.SidesValue.{SidesValue}
 use Rattle.relay_core.specs.RelayView.{IsSound, IsSoundSide}
 use Rattle.relay_core.specs.declared.ctl.Ctl.TheInside.{Inside}
 use Rattle.relay_core.proofs.RelayLemmas.{still_sound}
-use Rattle.relay_core.specs.Timeless.{leaves_some, left_by, IsTimeless, IsWatching}
+use Rattle.relay_core.specs.Timeless.{leaves_some, left_by, is_halted, IsTimeless, IsWatching, IsGrouping}
+use Rattle.relay_core.proofs.HaltLemmas.{left-keeps, joined-keeps, joined_where-keeps, halted-joined, halted-none, halted-refilled}
+use Rattle.relay_core.proofs.HaltLemmas.{halted-spent}
 
 -- Sides
 
@@ -49,13 +52,13 @@ pub alike : (x : PlainSide) → IsAlike x x
 alike x = record { live = refl; timeouts = refl; expired = refl; limit = refl }
 
 -- then it waits for none where it did not
-timeless-alike : (time : ℕ) (x y : PlainSide) (g : Gauge) (o : Option ℕ) → IsAlike x y → IsTimeless time x g o → IsTimeless time y g o
+timeless-alike : (time : ℕ) (x y : PlainSide) (g : Gauge) (o : Bool) → IsAlike x y → IsTimeless time x g o → IsTimeless time y g o
 timeless-alike time x y g o a h = record {
   reads = (λ i. a.live i && nat_le 1 (a.timeouts i).read_ms) ∙ h.reads;
   writes = (λ i. a.live i && nat_le 1 (a.timeouts i).write_ms) ∙ h.writes;
   unexpired = (λ i. a.live i && a.expired i) ∙ h.unexpired;
   allowed = λ is d. ap (λ l. leaves_some (left_by l g d time)) a.limit ∙ h.allowed (sym a.live ∙ is) d;
-  alone = h.alone;
+  unhalted = h.unhalted;
 }
 
 pub alike-enabled : (d : Dir) (on : Bool) (x : PlainSide) → IsAlike x (enabled d on x)
@@ -65,17 +68,6 @@ alike-enabled dir.Write on x = record { live = refl; timeouts = refl; expired = 
 pub alike-active : (time : ℕ) (d : Dir) (x : PlainSide) → IsAlike x (active_at time d x)
 alike-active time dir.Read x = record { live = refl; timeouts = refl; expired = refl; limit = refl }
 alike-active time dir.Write x = record { live = refl; timeouts = refl; expired = refl; limit = refl }
-
--- a freed side that is in no group waits for none
-freed-timeless : (time : ℕ) (x : PlainSide) (g : Gauge) (o : Option ℕ) → o ≡ None →
-    IsTimeless time (record x { live = false; group = None }) g o
-freed-timeless time x g o none = record {
-  reads = refl;
-  writes = refl;
-  unexpired = refl;
-  allowed = λ is d. absurd (let wrong : false ≡ true = is in cc);
-  alone = none;
-}
 
 -- a side is replaced, and what is so of each side with a number is so still
 set-keeps : (P : PlainSide → Type 0) (xs : List PlainSide) (j i : ℕ) (x : PlainSide) →
@@ -89,41 +81,6 @@ set-keeps P (y ∷ ys) (suc j) (suc i) x h p = set-keeps P ys j i x (λ e. h (ap
 -- sides of different links have different numbers
 pub numbers-differ : (e z : SideId) → z.link ≢ e.link → number z ≢ number e
 numbers-differ e z other same = omega (arith, same, other, half-below e.side, half-below z.side)
-
--- Groups
-
--- who is in no group is in none once another has left
-left-keeps : (member k : ℕ) (es : List (ℕ × ℕ)) → group_of member es ≡ None → group_of member (remove_entry (nat_eq k) es) ≡ None
-left-keeps member k [] h = h
-left-keeps member k (y ∷ es) h = by (nat_eq k y.0) (nat_eq member y.0) h (left-keeps member k es)
-  where
-    stay : (a : Bool) → (if a then Some y.1 else group_of member es) ≡ None →
-        (group_of member es ≡ None → group_of member (remove_entry (nat_eq k) es) ≡ None) →
-        (if a then Some y.1 else group_of member (remove_entry (nat_eq k) es)) ≡ None
-    stay true p rest = absurd (cc p)
-    stay false p rest = rest p
-
-    by : (b a : Bool) → (if a then Some y.1 else group_of member es) ≡ None →
-        (group_of member es ≡ None → group_of member (remove_entry (nat_eq k) es) ≡ None) →
-        group_of member (if b then es else y ∷ remove_entry (nat_eq k) es) ≡ None
-    by b true p rest = absurd (cc p)
-    by true false p rest = p
-    by false false p rest = stay (nat_eq member y.0) h rest
-
--- nor once another has joined
-pub joined-keeps : (member k n : ℕ) (x : GroupsValue) → member ≢ k → group_of member x.members ≡ None →
-    group_of member (joined n k x).members ≡ None
-joined-keeps member k n x other h =
-    group-insert member k n x.members
-    ∙ elim (eqb_tells member k) as (λ _. (if nat_eq member k then Some n else group_of member x.members) ≡ None) [
-      | inl same ↦ absurd (other same.1)
-      | inr apart ↦ ap (λ b. if b then Some n else group_of member x.members) apart.0 ∙ h
-    ]
-
-joined_where-keeps : (o : Option ℕ) (e : SideId) (member : ℕ) (x : GroupsValue) → member ≢ number e → group_of member x.members ≡ None →
-    group_of member (joined_where o e x).members ≡ None
-joined_where-keeps None e member x other h = h
-joined_where-keeps (Some n) e member x other h = joined-keeps member (number e) n x other h
 
 -- Time
 
@@ -149,92 +106,76 @@ left-later None x d a b le h = refl
 left-later (Some y) x d a b le h = some-later (held_at y.cfg x d a) (held_at y.cfg x d b) (held-later y.cfg x d a b le) h
 
 -- the same of the same
-timeless-parts : (time : ℕ) {x y : PlainSide} {g h : Gauge} {o u : Option ℕ} → x ≡ y → g ≡ h → o ≡ u → IsTimeless time x g o →
+timeless-parts : (time : ℕ) {x y : PlainSide} {g h : Gauge} {o u : Bool} → x ≡ y → g ≡ h → o ≡ u → IsTimeless time x g o →
     IsTimeless time y h u
 timeless-parts time {y = y} {g = g} {h = h} {o = o} a b c p =
     subst (λ z. IsTimeless time y h z) c (subst (λ z. IsTimeless time y z o) b (subst (λ z. IsTimeless time z g o) a p))
 
 -- and it does not wait later where it does not wait
-timeless-later : (a b : ℕ) (x : PlainSide) (g : Gauge) (o : Option ℕ) → a ≤ b → IsTimeless a x g o → IsTimeless b x g o
+timeless-later : (a b : ℕ) (x : PlainSide) (g : Gauge) (o : Bool) → a ≤ b → IsTimeless a x g o → IsTimeless b x g o
 timeless-later a b x g o le h = record {
   reads = h.reads;
   writes = h.writes;
   unexpired = h.unexpired;
   allowed = λ is d. left-later x.limit g d a b le (h.allowed is d);
-  alone = h.alone;
+  unhalted = h.unhalted;
 }
 
 -- Whether the watched links are right
 
-module _ (w : NumberSetValue) (time : ℕ) (k : Links) (members : List (ℕ × ℕ)) (h : IsWatching w time k members) where
+module _ (w : NumberSetValue) (time : ℕ) (k : Links) (x : GroupsValue) (h : IsWatching w time k x) where
   -- Sides, or buckets, or groups changed at one side alone, which stays as it is, or whose link is watched.
-  watching-at : (v : NumberSetValue) (j : Links) (new : List (ℕ × ℕ)) → v.len ≡ w.len → j.opened ≡ k.opened →
-      ((e : SideId) → v.has e.link ≡ false → (w.has e.link ≡ false) × (IsTimeless time (links.side_at k e) (links.gauge_at k e)
-      (group_of (number e) members) → IsTimeless time (links.side_at j e) (links.gauge_at j e) (group_of (number e) new))) →
-      IsWatching v time j new
+  watching-at : (v : NumberSetValue) (j : Links) (new : GroupsValue) → v.len ≡ w.len → j.opened ≡ k.opened →
+      ((e : SideId) → e.link < k.opened → v.has e.link ≡ false →
+      (w.has e.link ≡ false) × (IsTimeless time (links.side_at k e) (links.gauge_at k e) (is_halted (number e) x) →
+      IsTimeless time (links.side_at j e) (links.gauge_at j e) (is_halted (number e) new))) → IsWatching v time j new
   watching-at v j new len opened each = record {
     covers = let covers = h.covers in omega (arith, len, opened, covers);
-    beside = λ e below out. let keeps = each e out in keeps.1 (h.beside e (subst (λ n. e.link < n) opened below) keeps.0);
+    beside = λ e below out.
+        let under = subst (λ n. e.link < n) opened below in
+        let keeps = each e under out in
+        keeps.1 (h.beside e under keeps.0);
   }
 
   -- a side changed, and not in what decides
   pub watching-alike : (j : Links) (e : SideId) (y : PlainSide) → j.sides ≡ slice_set k.sides (number e) y →
-      IsAlike (links.side_at k e) y → j.gauges ≡ k.gauges → j.opened ≡ k.opened → IsWatching w time j members
+      IsAlike (links.side_at k e) y → j.gauges ≡ k.gauges → j.opened ≡ k.opened → IsWatching w time j x
   watching-alike j e y sides like gauges opened =
-      watching-at w j members refl opened (λ z out. (
+      watching-at w j x refl opened (λ z under out. (
         out,
         λ p.
-            let P : PlainSide → Type 0 = λ x. IsTimeless time x (links.gauge_at k z) (group_of (number z) members) in
+            let P : PlainSide → Type 0 = λ u. IsTimeless time u (links.gauge_at k z) (is_halted (number z) x) in
             let moved : P (links.side_at j z) = subst (λ xs. P (slice_index_or xs (number z) no_side)) (sym sides)
             (set-keeps P k.sides (number e) (number z) y
-            (λ same q. timeless-alike time (links.side_at k e) y (links.gauge_at k z) (group_of (number z) members) like q) p) in
-            subst (λ xs. IsTimeless time (links.side_at j z) (slice_index_or xs (number z) no_gauge) (group_of (number z) members))
+            (λ same q. timeless-alike time (links.side_at k e) y (links.gauge_at k z) (is_halted (number z) x) like q) p) in
+            subst (λ xs. IsTimeless time (links.side_at j z) (slice_index_or xs (number z) no_gauge) (is_halted (number z) x))
             (sym gauges) moved,
       ))
 
   -- with one side changed so by a function
   pub watching-changed : (j : Links) (e : SideId) (f : PlainSide → PlainSide) → j ≡ change_side e f k →
-      ((x : PlainSide) → IsAlike x (f x)) → IsWatching w time j members
+      ((x : PlainSide) → IsAlike x (f x)) → IsWatching w time j x
   watching-changed j e f is like =
       watching-alike j e (f (links.side_at k e)) (ap (λ (z : Links). z.sides) is) (like (links.side_at k e))
       (ap (λ (z : Links). z.gauges) is) (ap (λ (z : Links). z.opened) is)
 
-  -- a side was freed, and left its group
-  pub watching-freed : (j : Links) (e : SideId) (n : ℕ) (new : List (ℕ × ℕ)) → j ≡ links.freed e k →
-      new ≡ remove_entry (nat_eq n) members → IsWatching w time j new
-  watching-freed j e n new is gone =
-      watching-at w j new refl (ap (λ (z : Links). z.opened) is) (λ z out. (
-        out,
-        λ p.
-            let o : Option ℕ = group_of (number z) new in
-            let none : o ≡ None = ap (group_of (number z)) gone ∙ left-keeps (number z) n members p.alone in
-            let P : PlainSide → Type 0 = λ x. IsTimeless time x (links.gauge_at k z) o in
-            let dead : PlainSide → PlainSide = λ x. record x { live = false; group = None } in
-            let here : P (links.side_at k z) = subst (λ g. IsTimeless time (links.side_at k z) (links.gauge_at k z) g) (p.alone ∙ sym none) p in
-            let moved : P (links.side_at j z) = subst (λ xs. P (slice_index_or xs (number z) no_side)) (sym (ap (λ (z : Links). z.sides) is))
-            (set-keeps P k.sides (number e) (number z) (dead (links.side_at k e))
-            (λ same q. freed-timeless time (links.side_at k e) (links.gauge_at k z) o none) here) in
-            subst (λ xs. IsTimeless time (links.side_at j z) (slice_index_or xs (number z) no_gauge) o)
-            (sym (ap (λ (z : Links). z.gauges) is)) moved,
-      ))
-
   -- A link became watched: whatever became of one side of it
-  pub watching-more : (v : NumberSetValue) (j : Links) (new : List (ℕ × ℕ)) (e : SideId) (y : PlainSide) (x : Gauge) →
+  pub watching-more : (v : NumberSetValue) (j : Links) (new : GroupsValue) (e : SideId) (y : PlainSide) (g : Gauge) →
       ((n : ℕ) → v.has n ≡ (if n == e.link then true else w.has n)) → v.len ≡ w.len →
-      j.sides ≡ slice_set k.sides (number e) y → j.gauges ≡ slice_set k.gauges (number e) x → j.opened ≡ k.opened →
-      ((z : SideId) → z.link ≢ e.link → group_of (number z) members ≡ None → group_of (number z) new ≡ None) → IsWatching v time j new
-  watching-more v j new e y x has len sides gauges opened groups =
-      watching-at v j new len opened (λ z out.
+      j.sides ≡ slice_set k.sides (number e) y → j.gauges ≡ slice_set k.gauges (number e) g → j.opened ≡ k.opened →
+      ((z : SideId) → z.link ≢ e.link → is_halted (number z) x ≡ false → is_halted (number z) new ≡ false) → IsWatching v time j new
+  watching-more v j new e y g has len sides gauges opened groups =
+      watching-at v j new len opened (λ z under out.
       let apart : z.link == e.link ≡ false = go (z.link == e.link) (w.has z.link) (sym (has z.link) ∙ out) in
       let other : z.link ≢ e.link = eqb-false z.link e.link apart in
       let differ = numbers-differ e z other in
       let side : links.side_at j z ≡ links.side_at k z = ap (λ xs. slice_index_or xs (number z) no_side) sides
       ∙ get_or-set_other k.sides (number e) (number z) y no_side differ in
       let gauge : links.gauge_at j z ≡ links.gauge_at k z = ap (λ xs. slice_index_or xs (number z) no_gauge) gauges
-      ∙ get_or-set_other k.gauges (number e) (number z) x no_gauge differ in (
+      ∙ get_or-set_other k.gauges (number e) (number z) g no_gauge differ in (
         sym (ap (λ b. if b then true else w.has z.link) apart) ∙ sym (has z.link) ∙ out,
         λ p.
-            timeless-parts time (sym side) (sym gauge) (p.alone ∙ sym (groups z other p.alone)) p,
+            timeless-parts time (sym side) (sym gauge) (p.unhalted ∙ sym (groups z other p.unhalted)) p,
       ))
     where
       go : (b c : Bool) → (if b then true else c) ≡ false → b ≡ false
@@ -245,9 +186,9 @@ module _ (w : NumberSetValue) (time : ℕ) (k : Links) (members : List (ℕ × �
   pub watching-spent : (v : NumberSetValue) (j : Links) (e : SideId) (d : Dir) (n : ℕ) (limited : Bool) →
       ((m : ℕ) → v.has m ≡ (if m == e.link then limited || w.has e.link else w.has m)) → v.len ≡ w.len →
       limited ≡ is_some (links.allowance_at time k e d) →
-      j ≡ links.bucket_spent time e d n k → IsWatching v time j members
+      j ≡ links.bucket_spent time e d n k → IsWatching v time j x
   watching-spent v j e d n limited has len told is =
-      watching-at v j members len (ap (λ (z : Links). z.opened) is) (λ z out.
+      watching-at v j x len (ap (λ (z : Links). z.opened) is) (λ z under out.
       let sides : j.sides ≡ k.sides = ap (λ (l : Links). l.sides) is in
       let gauges : j.gauges ≡ slice_set k.gauges (number e) (gauge_after (links.side_at k e).limit time d n (links.gauge_at k e)) =
       ap (λ (l : Links). l.gauges) is in
@@ -277,56 +218,46 @@ module _ (w : NumberSetValue) (time : ℕ) (k : Links) (members : List (ℕ × �
       unlimited (Some y) x d n none = absurd (let wrong : true ≡ false = none in cc)
 
   -- it is later
-  pub watching-later : (to : ℕ) → time ≤ to → IsWatching w to k members
+  pub watching-later : (to : ℕ) → time ≤ to → IsWatching w to k x
   watching-later to le = record {
     covers = h.covers;
-    beside = λ e below out. timeless-later time to (links.side_at k e) (links.gauge_at k e) (group_of (number e) members) le
+    beside = λ e below out. timeless-later time to (links.side_at k e) (links.gauge_at k e) (is_halted (number e) x) le
         (h.beside e below out);
   }
 
   -- a direction was passed
-  pub watching-passage : (j : Links) (e : SideId) (x : Passage) → j ≡ links.with_passage e x k → IsWatching w time j members
-  watching-passage j e x is = watching-two j (ap (λ (z : Links). z.sides) is) (ap (λ (z : Links). z.gauges) is)
+  pub watching-passage : (j : Links) (e : SideId) (q : Passage) → j ≡ links.with_passage e q k → IsWatching w time j x
+  watching-passage j e q is = watching-two j (ap (λ (z : Links). z.sides) is) (ap (λ (z : Links). z.gauges) is)
       (ap (λ (z : Links). z.opened) is)
     where
       mid : Links
-      mid = change_side e (with_bad x.from_bad) k
+      mid = change_side e (with_bad q.from_bad) k
 
-      watching-two : (j : Links) → j.sides ≡ (change_side (peer e) (with_bad x.to_bad) mid).sides → j.gauges ≡ k.gauges →
-          j.opened ≡ k.opened → IsWatching w time j members
+      watching-two : (j : Links) → j.sides ≡ (change_side (peer e) (with_bad q.to_bad) mid).sides → j.gauges ≡ k.gauges →
+          j.opened ≡ k.opened → IsWatching w time j x
       watching-two j sides gauges opened = record {
         covers = let covers = h.covers in omega (arith, opened, covers);
         beside = λ z below out.
             let g : Gauge = links.gauge_at k z in
-            let o : Option ℕ = group_of (number z) members in
+            let o : Bool = is_halted (number z) x in
             let P : PlainSide → Type 0 = λ y. IsTimeless time y g o in
             let bad = λ (y : PlainSide) (b : Option ℕ) (p : P y). timeless-alike time y (with_bad b y) g o
             (record { live = refl; timeouts = refl; expired = refl; limit = refl }) p in
-            let one = set-keeps P k.sides (number e) (number z) (with_bad x.from_bad (links.side_at k e))
-            (λ same q. bad (links.side_at k e) x.from_bad q) (h.beside z (subst (λ n. z.link < n) opened below) out) in
-            let two = set-keeps P mid.sides (number (peer e)) (number z) (with_bad x.to_bad (links.side_at mid (peer e)))
-            (λ same q. bad (links.side_at mid (peer e)) x.to_bad q) one in
+            let one = set-keeps P k.sides (number e) (number z) (with_bad q.from_bad (links.side_at k e))
+            (λ same p. bad (links.side_at k e) q.from_bad p) (h.beside z (subst (λ n. z.link < n) opened below) out) in
+            let two = set-keeps P mid.sides (number (peer e)) (number z) (with_bad q.to_bad (links.side_at mid (peer e)))
+            (λ same p. bad (links.side_at mid (peer e)) q.to_bad p) one in
             timeless-parts time (ap (λ xs. slice_index_or xs (number z) no_side) (sym sides))
             (ap (λ xs. slice_index_or xs (number z) no_gauge) (sym gauges)) refl two;
       }
 
   pub watching-passed : (hold : ℕ) (j : Links) (e : SideId) (T E : Type 0) (result : Result T E) →
-      MatchResult result (λ _. links.PassedFrom hold k e j) (λ _. links.PartlyPassed hold k e j) → IsWatching w time j members
+      MatchResult result (λ _. links.PassedFrom hold k e j) (λ _. links.PartlyPassed hold k e j) → IsWatching w time j x
   watching-passed hold j e T E (Ok a) p = watching-passage j e p.0 p.2
   watching-passed hold j e T E (Err a) p = watching-passage j e p.0 p.2
 
-  -- a side left its group
-  pub watching-left : (n : ℕ) (new : List (ℕ × ℕ)) → new ≡ remove_entry (nat_eq n) members → IsWatching w time k new
-  watching-left n new gone =
-      watching-at w k new refl refl (λ z out. (
-        out,
-        λ p.
-            let none : group_of (number z) new ≡ None = ap (group_of (number z)) gone ∙ left-keeps (number z) n members p.alone in
-            timeless-parts time refl refl (p.alone ∙ sym none) p,
-      ))
-
   -- there are more places
-  pub watching-wider : (v : NumberSetValue) → w.len ≤ v.len → ((n : ℕ) → v.has n ≡ w.has n) → IsWatching v time k members
+  pub watching-wider : (v : NumberSetValue) → w.len ≤ v.len → ((n : ℕ) → v.has n ≡ w.has n) → IsWatching v time k x
   watching-wider v len has = record {
     covers = let covers = h.covers in omega (arith, covers, len);
     beside = λ e below out. h.beside e below (sym (has e.link) ∙ out);
@@ -334,8 +265,8 @@ module _ (w : NumberSetValue) (time : ℕ) (k : Links) (members : List (ℕ × �
 
   -- a link is watched no more whose sides wait for no moment
   pub watching-fewer : (v : NumberSetValue) (link : ℕ) → v.len ≡ w.len → ((n : ℕ) → v.has n ≡ (if n == link then false else w.has n)) →
-      ((e : SideId) → e.link ≡ link → IsTimeless time (links.side_at k e) (links.gauge_at k e) (group_of (number e) members)) →
-      IsWatching v time k members
+      ((e : SideId) → e.link ≡ link → IsTimeless time (links.side_at k e) (links.gauge_at k e) (is_halted (number e) x)) →
+      IsWatching v time k x
   watching-fewer v link len has none = record {
     covers = let covers = h.covers in omega (arith, covers, len);
     beside = λ e below out. elim (eqb_tells e.link link) [
@@ -345,25 +276,138 @@ module _ (w : NumberSetValue) (time : ℕ) (k : Links) (members : List (ℕ × �
   }
 
 -- bytes were got
-pub watching-got : (w : NumberSetValue) (time : ℕ) (k j : Links) (members : List (ℕ × ℕ)) (e : SideId) (bytes : List ℕ) →
-    IsWatching w time k members → j ≡ links.after_got time e bytes k → IsWatching w time j members
-watching-got w time k j members e bytes h is =
+pub watching-got : (w : NumberSetValue) (time : ℕ) (k j : Links) (x : GroupsValue) (e : SideId) (bytes : List ℕ) →
+    IsWatching w time k x → j ≡ links.after_got time e bytes k → IsWatching w time j x
+watching-got w time k j x e bytes h is =
     let grown : Links = links.with_got time e bytes k in
-    let mid = watching-alike w time k members h grown e (active_at time dir.Read (links.side_at k e)) refl
+    let mid = watching-alike w time k x h grown e (active_at time dir.Read (links.side_at k e)) refl
     (alike-active time dir.Read (links.side_at k e)) refl refl in
-    watching-passage w time grown members mid j e (read_part (links.read_mark grown e) false (links.passage_at grown e)) is
+    watching-passage w time grown x mid j e (read_part (links.read_mark grown e) false (links.passage_at grown e)) is
 
 -- bytes were taken
-pub watching-took : (w : NumberSetValue) (time : ℕ) (k j : Links) (members : List (ℕ × ℕ)) (e : SideId) (n : ℕ) →
-    IsWatching w time k members → j ≡ links.after_took time e n k → IsWatching w time j members
-watching-took w time k j members e n h is =
-    watching-alike w time k members h j e (active_at time dir.Write (links.side_at k e)) (ap (λ (z : Links). z.sides) is)
+pub watching-took : (w : NumberSetValue) (time : ℕ) (k j : Links) (x : GroupsValue) (e : SideId) (n : ℕ) →
+    IsWatching w time k x → j ≡ links.after_took time e n k → IsWatching w time j x
+watching-took w time k j x e n h is =
+    watching-alike w time k x h j e (active_at time dir.Write (links.side_at k e)) (ap (λ (z : Links). z.sides) is)
     (alike-active time dir.Write (links.side_at k e)) (ap (λ (z : Links). z.gauges) is) (ap (λ (z : Links). z.opened) is)
 
--- other groups with the same members
-pub watching-members : (w : NumberSetValue) (time : ℕ) (k : Links) (old new : List (ℕ × ℕ)) → new ≡ old → IsWatching w time k old →
-    IsWatching w time k new
-watching-members w time k old new is h = subst (IsWatching w time k) (sym is) h
+-- groups were refilled
+pub watching-refilled : (w : NumberSetValue) (time ms : ℕ) (k : Links) (x y : GroupsValue) → y ≡ all_refilled ms x →
+    IsWatching w time k x → IsWatching w time k y
+watching-refilled w time ms k x y is h = subst (IsWatching w time k) (sym is) (record {
+  covers = h.covers;
+  beside = λ e below out.
+      let p = h.beside e below out in
+      timeless-parts time refl refl (p.unhalted ∙ sym (halted-refilled ms (number e) x p.unhalted)) p;
+})
+
+-- A member moved bytes. Where its share is nothing then, all members are watched.
+pub watching-shared : (w v grouped : NumberSetValue) (time : ℕ) (k : Links) (x y : GroupsValue) (mover : ℕ) (d : Dir) (n : ℕ)
+    (free : Bool) →
+    IsWatching w time k x → IsGrouping grouped k.opened x.members → v.len ≡ w.len →
+    ((m : ℕ) → m < w.len → v.has m ≡ ((not free && grouped.has m) || w.has m)) →
+    y ≡ spent mover d n x → free ≡ leaves_some (share_in mover d y) → IsWatching v time k y
+watching-shared w v grouped time k x y mover d n free h g len has is told = record {
+  covers = let covers = h.covers in omega (arith, covers, len);
+  beside = λ e below out.
+      let parts = or_parts (not free && grouped.has e.link) (w.has e.link)
+      (sym (has e.link (let covers = h.covers in omega (arith, covers, below))) ∙ out) in
+      let p = h.beside e below parts.1 in
+      timeless-parts time refl refl (p.unhalted ∙ sym (still e below parts.0 p.unhalted free refl)) p;
+}
+  where
+    still : (e : SideId) → e.link < k.opened → (not free && grouped.has e.link) ≡ false → is_halted (number e) x ≡ false → (b : Bool) →
+        free ≡ b → is_halted (number e) y ≡ false
+    still e below none was true f =
+        ap (is_halted (number e)) is
+        ∙ halted-spent mover d n (number e) x (ap (λ z. leaves_some (share_in mover d z)) (sym is) ∙ sym told ∙ f) was
+    still e below none was false f =
+        let out : grouped.has e.link ≡ false = sym (ap (λ b. not b && grouped.has e.link) f) ∙ none in
+        ap (is_halted (number e)) is ∙ halted-none (number e) (spent mover d n x) (g.beside e below out)
+
+-- Members
+
+pub grouping-at : (g : NumberSetValue) (n m : ℕ) (members : List (ℕ × ℕ)) → m ≡ n → IsGrouping g n members → IsGrouping g m members
+grouping-at g n m members is h = subst (λ i. IsGrouping g i members) (sym is) h
+
+pub grouping-passed : (g : NumberSetValue) (members : List (ℕ × ℕ)) (hold : ℕ) (k j : Links) (e : SideId) (T E : Type 0)
+    (result : Result T E) → IsGrouping g k.opened members →
+    MatchResult result (λ _. links.PassedFrom hold k e j) (λ _. links.PartlyPassed hold k e j) → IsGrouping g j.opened members
+grouping-passed g members hold k j e T E (Ok a) h p = grouping-at g k.opened j.opened members (ap (λ (z : Links). z.opened) p.2) h
+grouping-passed g members hold k j e T E (Err a) h p = grouping-at g k.opened j.opened members (ap (λ (z : Links). z.opened) p.2) h
+
+-- a side left its group
+pub grouping-left : (g : NumberSetValue) (n : ℕ) (member : ℕ) (members new : List (ℕ × ℕ)) → new ≡ remove_entry (nat_eq member) members →
+    IsGrouping g n members → IsGrouping g n new
+grouping-left g n member members new is h = record {
+  covers = h.covers;
+  beside = λ e below out. ap (group_of (number e)) is ∙ left-keeps (number e) member members (h.beside e below out);
+}
+
+-- a side joined one, and its link is among those with members
+pub grouping-joined : (g new : NumberSetValue) (n : ℕ) (e : SideId) (group : ℕ) (x y : GroupsValue) → y ≡ joined group (number e) x →
+    ((m : ℕ) → new.has m ≡ (if m == e.link then true else g.has m)) → new.len ≡ g.len →
+    IsGrouping g n x.members → IsGrouping new n y.members
+grouping-joined g new n e group x y is has len h = record {
+  covers = let covers = h.covers in omega (arith, covers, len);
+  beside = λ z below out. elim (eqb_tells z.link e.link) [
+    | inl here ↦ absurd (let t : true ≡ false = sym (ap (λ c. if c then true else g.has z.link) here.0) ∙ sym (has z.link) ∙ out in cc)
+    | inr other ↦
+        ap (λ (l : GroupsValue). group_of (number z) l.members) is
+        ∙ joined-keeps (number z) (number e) group x (numbers-differ e z other.1)
+        (h.beside z below (sym (ap (λ c. if c then true else g.has z.link) other.0) ∙ sym (has z.link) ∙ out))
+  ];
+}
+
+-- a link was opened, which is among those with members
+pub grouping-opened : (g new : NumberSetValue) (n m : ℕ) (a b : SideId) (first second : Option ℕ) (x y z : GroupsValue) → m ≡ n + 1 →
+    n + 1 ≤ g.len → a.link ≡ n → b.link ≡ n → y ≡ joined_where first a x → z ≡ joined_where second b y →
+    ((i : ℕ) → new.has i ≡ (if i == n then true else g.has i)) → new.len ≡ g.len → IsGrouping g n x.members → IsGrouping new m z.members
+grouping-opened g new n m a b first second x y z count room at_a at_b one two has len h = record {
+  covers = omega (arith, room, len, count);
+  beside = λ e below out. elim (eqb_tells e.link n) [
+    | inl here ↦ absurd (let t : true ≡ false = sym (ap (λ c. if c then true else g.has e.link) here.0) ∙ sym (has e.link) ∙ out in cc)
+    | inr old ↦
+        let none = h.beside e (let other = old.1 in omega (arith, below, count, other))
+        (sym (ap (λ c. if c then true else g.has e.link) old.0) ∙ sym (has e.link) ∙ out) in
+        ap (λ (l : GroupsValue). group_of (number e) l.members) two
+        ∙ joined_where-keeps second b (number e) y (numbers-differ b e (λ q. old.1 (q ∙ at_b)))
+        (ap (λ (l : GroupsValue). group_of (number e) l.members) one
+        ∙ joined_where-keeps first a (number e) x (numbers-differ a e (λ q. old.1 (q ∙ at_a))) none)
+  ];
+}
+
+pub grouping-wider : (g new : NumberSetValue) (n : ℕ) (members : List (ℕ × ℕ)) → g.len ≤ new.len → ((i : ℕ) → new.has i ≡ g.has i) →
+    IsGrouping g n members → IsGrouping new n members
+grouping-wider g new n members len has h = record {
+  covers = let covers = h.covers in omega (arith, covers, len);
+  beside = λ e below out. h.beside e below (sym (has e.link) ∙ out);
+}
+
+-- a link is taken out whose sides are in no group
+pub grouping-fewer : (g new : NumberSetValue) (n : ℕ) (near : SideId) (members : List (ℕ × ℕ)) → new.len ≡ g.len →
+    ((i : ℕ) → new.has i ≡ (if i == near.link then false else g.has i)) → group_of (number near) members ≡ None →
+    group_of (number (peer near)) members ≡ None → IsGrouping g n members → IsGrouping new n members
+grouping-fewer g new n near members len has a b h = record {
+  covers = let covers = h.covers in omega (arith, covers, len);
+  beside = λ e below out. elim (eqb_tells e.link near.link) [
+    | inl here ↦ own e here.1 e.side near.side refl refl
+    | inr other ↦ h.beside e below (sym (ap (λ c. if c then false else g.has e.link) other.0) ∙ sym (has e.link) ∙ out)
+  ];
+}
+  where
+    at : (i j : ℕ) → i ≡ j → group_of j members ≡ None → group_of i members ≡ None
+    at i j is none = ap (λ n. group_of n members) is ∙ none
+
+    own : (e : SideId) → e.link ≡ near.link → (u v : Side) → e.side ≡ u → near.side ≡ v → group_of (number e) members ≡ None
+    own e link In In s v =
+        at (number e) (number near) (let p = ap half s in let q = ap half v in omega (arith, link, p, q)) a
+    own e link Out Out s v =
+        at (number e) (number near) (let p = ap half s in let q = ap half v in omega (arith, link, p, q)) a
+    own e link In Out s v =
+        at (number e) (number (peer near)) (let p = ap half s in let q = ap (λ z. half (other z)) v in omega (arith, link, p, q)) b
+    own e link Out In s v =
+        at (number e) (number (peer near)) (let p = ap half s in let q = ap (λ z. half (other z)) v in omega (arith, link, p, q)) b
 
 -- the places of the sides of opened links are below those of a new one
 old-place : {A : Type 0} (n : ℕ) (xs ys : List A) (d : A) (z : SideId) → length xs ≡ 2 * n → z.link < n →
@@ -372,10 +416,10 @@ old-place n xs ys d z many below = get_or_append_left xs ys d (number z) (omega 
 
 -- A link was opened, which is watched.
 pub watching-opened : (w v : NumberSetValue) (time turn : ℕ) (k j : Links) (x y z : GroupsValue) (near far : NewSide) (a b : SideId) →
-    IsWatching w time k x.members → length k.sides ≡ 2 * k.opened → length k.gauges ≡ 2 * k.opened → k.opened + 1 ≤ w.len →
+    IsWatching w time k x → length k.sides ≡ 2 * k.opened → length k.gauges ≡ 2 * k.opened → k.opened + 1 ≤ w.len →
     ((n : ℕ) → v.has n ≡ (if n == k.opened then true else w.has n)) → v.len ≡ w.len →
     j ≡ with_link time turn near far k → a.link ≡ k.opened → b.link ≡ k.opened →
-    y ≡ joined_where near.group a x → z ≡ joined_where far.group b y → IsWatching v time j z.members
+    y ≡ joined_where near.group a x → z ≡ joined_where far.group b y → IsWatching v time j z
 watching-opened w v time turn k j x y z near far a b h sides gauges room has len is at_a at_b first second = record {
   covers = let count : j.opened ≡ k.opened + 1 = ap (λ (l : Links). l.opened) is in omega (arith, count, len, room);
   beside = λ e below out.
@@ -388,13 +432,13 @@ watching-opened w v time turn k j x y z near far a b h sides gauges room has len
             let p = h.beside e under was in
             let not_a : number e ≢ number a = numbers-differ a e (λ q. old.1 (q ∙ at_a)) in
             let not_b : number e ≢ number b = numbers-differ b e (λ q. old.1 (q ∙ at_b)) in
-            let one : group_of (number e) y.members ≡ None = ap (λ (l : GroupsValue). group_of (number e) l.members) first
-            ∙ joined_where-keeps near.group a (number e) x not_a p.alone in
-            let two : group_of (number e) z.members ≡ None = ap (λ (l : GroupsValue). group_of (number e) l.members) second
-            ∙ joined_where-keeps far.group b (number e) y not_b one in
+            let one : is_halted (number e) y ≡ false = ap (is_halted (number e)) first
+            ∙ halted-joined near.group a (number e) x not_a p.unhalted in
+            let two : is_halted (number e) z ≡ false = ap (is_halted (number e)) second
+            ∙ halted-joined far.group b (number e) y not_b one in
             let side = ap (λ (l : Links). links.side_at l e) is ∙ old-place k.opened k.sides _ no_side e sides under in
             let gauge = ap (λ (l : Links). links.gauge_at l e) is ∙ old-place k.opened k.gauges _ no_gauge e gauges under in
-            timeless-parts time (sym side) (sym gauge) (p.alone ∙ sym two) p
+            timeless-parts time (sym side) (sym gauge) (p.unhalted ∙ sym two) p
       ];
 }
 
@@ -409,10 +453,6 @@ pub record IsMuchAlike (x y : PlainSide) : Type 0 where
 pub much_enabled : (d : Dir) (on : Bool) (x : PlainSide) → IsMuchAlike x (enabled d on x)
 much_enabled dir.Read on x = record { alike = alike-enabled dir.Read on x; read = refl; write = refl }
 much_enabled dir.Write on x = record { alike = alike-enabled dir.Write on x; read = refl; write = refl }
-
--- where the four parts and both moments are the same by definition
-pub plainly : (x : PlainSide) → IsMuchAlike x x
-plainly x = record { alike = alike x; read = refl; write = refl }
 
 side_sound : (time : ℕ) (u : Bool) (x y : PlainSide) → IsMuchAlike x y → IsSoundSide time u x → IsSoundSide time u y
 side_sound time u x y a h = (
@@ -429,7 +469,8 @@ changed_sound r s e f h is like = record {
       (like (links.side_at r.sides.links e)) p)
       (ap (λ (z : Links). z.sides) is) (ap (λ (z : Links). z.gauges) is);
   grouped = h.grouped;
-  watching = watching-changed r.watched r.time r.sides.links r.groups.value.members h.watching s.links e f is (λ x. (like x).alike);
+  watching = watching-changed r.watched r.time r.sides.links r.groups.value h.watching s.links e f is (λ x. (like x).alike);
+  grouping = grouping-at r.grouped r.sides.links.opened s.links.opened r.groups.value.members (ap (λ (z : Links). z.opened) is) h.grouping;
   time = h.time;
   few = h.few;
   room = h.room;

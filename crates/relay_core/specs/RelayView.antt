@@ -5,7 +5,7 @@ use Rattle.std.specs.Prelude.{vec_len, vec_capacity, IfSome}
 use Rattle.std.specs.List.{All}
 use Rattle.ev_types.specs.Usual.{no_timeouts}
 use Rattle.ev_types.specs.declared.settings.Settings.{Settings}
-use Rattle.rate_group.specs.GroupValue.{GroupsValue}
+use Rattle.rate_group.specs.GroupValue.{GroupValue, GroupsValue}
 use Rattle.rate_group.specs.GroupsCalls.{no_groups}
 use Rattle.relay_model.specs.Plain.{PlainSide}
 use Rattle.relay_state.specs.Running.{Gauge}
@@ -16,7 +16,7 @@ use Rattle.relay_waits.specs.WaitsValue.{WaitsValue}
 use Rattle.relay_core.specs.Fires.{events_of}
 use Rattle.relay_core.specs.GivenGroups.{settings_given}
 use Rattle.relay_core.specs.RelayValue.{RelayValue}
-use Rattle.relay_core.specs.Timeless.{IsWatching}
+use Rattle.relay_core.specs.Timeless.{IsWatching, IsGrouping}
 use Rattle.relay_core.specs.declared.ctl.Ctl.TheInside.{Inside}
 use Rattle.relay_core.specs.declared.rate_groups.RateGroups.{RateGroups}
 
@@ -47,6 +47,7 @@ state_with r k = state_over r k r.waits
 abbrev pub has_room_for_rates : Inside → Bool
 has_room_for_rates r =
     nat_le (r.sides.links.opened + 1) r.watched.len
+    && nat_le (r.sides.links.opened + 1) r.grouped.len
     && nat_le (limits_in r.settings.in_rate + limits_in r.settings.out_rate) r.spare_limits
     && (nat_le (length r.given.groups.items) 0 || nat_le 2 r.groups.spare)
 
@@ -84,19 +85,21 @@ pub record AreSound (g : Settings) (time : ℕ) (untimed : Bool) (k : Links) : T
   pub gauges : All (λ (x : Gauge). x.time ≤ time) k.gauges
 
 -- What is so of the groups: there are as many as were given, and the sides of a new link join one that there is. Where none was given,
--- nobody is in one; and so it is where nothing is timed.
+-- nobody is in one; and so it is where nothing is timed. No member has a share of nothing.
 pub record HasGroups (given : RateGroups) (still : Bool) (x : GroupsValue) : Type 0 where
   pub many : length x.groups ≡ length given.groups.items
   pub in_group : IfSome given.in_group (λ n. n < length given.groups.items)
   pub out_group : IfSome given.out_group (λ n. n < length given.groups.items)
   pub none : given.groups.items ≡ [] → x ≡ no_groups
   pub untimed : still ≡ true → given.groups.items ≡ []
+  pub shares : All (λ (g : GroupValue). 1 ≤ g.least) x.groups
 
 -- There is room for the events of all asks that the running hook may still make, and memory for the limits that it may set.
 pub record IsSound (r : Inside) : Type 0 where
   pub timed : AreSound r.settings r.time r.untimed r.sides.links
   pub grouped : HasGroups r.given r.untimed r.groups.value
-  pub watching : IsWatching r.watched r.time r.sides.links r.groups.value.members
+  pub watching : IsWatching r.watched r.time r.sides.links r.groups.value
+  pub grouping : IsGrouping r.grouped r.sides.links.opened r.groups.value.members
   pub time : r.time ≤ 2 ^ 62
   pub few : r.asks ≤ 256
   pub room : vec_len r.log + 2 * (256 - r.asks) ≤ vec_capacity r.log

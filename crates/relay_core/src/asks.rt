@@ -159,6 +159,7 @@ impl Ctl {
             return Err(AskFault::Memory);
         }
         self.watched.insert(side.link as usize);
+        self.grouped.insert(side.link as usize);
         self.sides.set_group(side, Some(group));
         self.record(Act::Join(side, group), AskAnswer::Ok);
         Ok(())
@@ -173,6 +174,7 @@ impl Ctl {
         ensures { AsksOnce self.old (act.Leave side) (answer_of result) self.new }
     {
         self.may_ask(Act::Leave(side))?;
+        self.watched.insert(side.link as usize);
         leave(&mut self.groups, side);
         self.sides.set_group(side, None);
         self.record(Act::Leave(side), AskAnswer::Ok);

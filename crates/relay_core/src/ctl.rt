@@ -29,6 +29,8 @@ pub struct Ctl {
     pub(crate) untimed: bool,
     /// The links at which time may change something: a side that is not of one of them waits for no moment.
     pub(crate) watched: NumberSet,
+    /// The links of which a side may be in a group.
+    pub(crate) grouped: NumberSet,
     pub(crate) time: u64,
     pub(crate) turns: u64,
     pub(crate) sides: Sides,
@@ -120,6 +122,7 @@ impl Ctl {
     {
         self.sides.free(side);
         self.waits.forget(side);
+        self.watched.insert(side.link as usize);
         leave(&mut self.groups, side);
     }
 

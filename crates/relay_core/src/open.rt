@@ -45,6 +45,7 @@ impl Relay {
             &mut ctl.groups,
         )?;
         ctl.watched.lengthen(ctl.sides.opened() as usize + 1)?;
+        ctl.grouped.lengthen(ctl.sides.opened() as usize + 1)?;
         ctl.sides.reserve_link()
     }
 
@@ -65,6 +66,7 @@ impl Relay {
         };
         ctl.asks = MOST_ASKS;
         ctl.watched.insert(first.link as usize);
+        ctl.grouped.insert(first.link as usize);
         ctl.sides
             .open(near, far, ctl.time, ctl.turns, &mut ctl.spare_limits);
         join_where(&mut ctl.groups, near.group, first);

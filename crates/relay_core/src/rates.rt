@@ -1,5 +1,5 @@
 // What limits and groups leave to sides, and what they lose as bytes are moved.
-ghost use Rattle.std.specs.Prelude.{◌≡◌, ℕ, ◌<◌, ◌≤◌, ◌+◌, ◌==◌, ◌||◌, if◌then◌else◌, length, IfSome};
+ghost use Rattle.std.specs.Prelude.{◌≡◌, ℕ, ◌<◌, ◌≤◌, ◌+◌, ◌==◌, ◌&&◌, ◌||◌, if◌then◌else◌, length, IfSome};
 ghost use Rattle.ev_types.specs.Sides.{number};
 ghost use Rattle.rate_group.specs.Steps.{share_in, spent, left};
 ghost use Rattle.relay_model.specs.Rooms.{at_most};
@@ -10,6 +10,7 @@ ghost use Rattle.relay_sides.specs.KeptLimits.{IsAllowed};
 ghost use Rattle.relay_core.specs.Fires.{SameFire};
 
 use crate::ctl::Ctl;
+use crate::watched::leaves_some;
 use ev_types::SideId;
 use number_set::NumberSet;
 use rate_group::Groups;
@@ -43,6 +44,31 @@ fn watch_where(watched: &mut NumberSet, link: u32, told: bool)
 {
     if told {
         watched.insert(link as usize);
+    }
+}
+
+/// All links of another set are watched, where that is told.
+fn watch_all_where(watched: &mut NumberSet, more: &NumberSet, told: bool)
+    ensures len { watched.new.len ≡ watched.old.len }
+    ensures members { (n : ℕ) → n < watched.old.len → watched.new.has n ≡ ((told && more.now.has n) || watched.old.has n) }
+{
+    if told {
+        watch_all(watched, more);
+    }
+}
+
+/// All links of another set are watched that have a place.
+fn watch_all(watched: &mut NumberSet, more: &NumberSet)
+    ensures len { watched.new.len ≡ watched.old.len }
+    ensures members { (n : ℕ) → n < watched.old.len → watched.new.has n ≡ (more.now.has n || watched.old.has n) }
+{
+    let mut from = 0;
+    while let Some(link) = more.next(from) {
+        if link >= watched.len() {
+            return;
+        }
+        watched.insert(link);
+        from = link + 1;
     }
 }
 
@@ -90,5 +116,7 @@ impl Ctl {
         watch_where(&mut self.watched, side.link, limited);
         self.sides.spend(side, dir, count as u64, self.time);
         spend_share(&mut self.groups, side.number() as u64, dir, count as u64);
+        let free = leaves_some(self.groups.share(side.number() as u64, dir));
+        watch_all_where(&mut self.watched, &self.grouped, !free);
     }
 }

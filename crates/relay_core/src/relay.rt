@@ -92,6 +92,7 @@ impl Relay {
             stopped: false,
             log: Vec::new(alloc),
             watched: NumberSet::new(alloc),
+            grouped: NumberSet::new(alloc),
         };
         Ok(Relay { ctl })
     }

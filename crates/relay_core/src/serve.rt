@@ -30,7 +30,7 @@ impl Relay {
     }
 
     /// A read of the side's end was answered, and brought these bytes, in room that was made before and no more than may be read now.
-    /// Linear in their number; takes memory for them alone.
+    /// Linear in their number, and in the members of groups where its group is suspended by it; takes memory for the bytes alone.
     ///
     /// Own; libevent makes this change in the `readcb` of a socket bufferevent.
     pub fn read_answered(&mut self, side: SideId, answer: ReadAnswer, bytes: &[u8])
@@ -59,7 +59,7 @@ impl Relay {
     }
 
     /// A write to the side's end was answered: it took some of the bytes that are given to it now, or failed. Takes no memory; linear in
-    /// what was taken, over many calls.
+    /// what was taken, over many calls, and in the members of groups where its group is suspended by it.
     ///
     /// Own; libevent makes this change in the `writecb` of a socket bufferevent.
     pub fn write_answered(&mut self, side: SideId, answer: WriteAnswer)

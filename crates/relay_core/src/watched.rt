@@ -1,9 +1,9 @@
-// The links that are watched as time goes on: those of sides with a timeout or an empty bucket, of sides in a group, and some at which
-// something changed since they were looked at.
+// The links that are watched as time goes on: those of sides with a timeout or an empty bucket, of members of a suspended group, and some
+// at which something changed since they were looked at.
 ghost use Rattle.std.specs.Prelude.{◌≡◌, ◌+◌, ◌^◌, ◌<◌, ◌≤◌, true, false, MatchOption};
 ghost use Rattle.relay_model.specs.Plain.{is_live};
 ghost use Rattle.relay_state.specs.Rooms.{allowance};
-ghost use Rattle.relay_core.specs.Timeless.{leaves_some, IsTimelessSide, AreTimeless, AreTimelessBeside};
+ghost use Rattle.relay_core.specs.Timeless.{leaves_some, is_halted, IsStillSide, AreTimeless, AreTimelessBeside};
 
 use crate::ctl::Ctl;
 use crate::relay::Relay;
@@ -12,7 +12,7 @@ use number_set::NumberSet;
 use relay_sides::Dir;
 
 /// Whether a bound leaves something to move.
-fn leaves_some(most: Option<u64>) -> bool
+pub(crate) fn leaves_some(most: Option<u64>) -> bool
     ensures { result ≡ leaves_some most }
 {
     match most {
@@ -68,6 +68,7 @@ impl Relay {
             link,
             side: Side::In,
         };
+        self.ctl.forget_members(near);
         if self.ctl.is_timeless(near) && self.ctl.is_timeless(near.peer()) {
             self.ctl.watched.remove(link as usize);
         }
@@ -78,6 +79,9 @@ impl Ctl {
     ghost use Rattle.std.specs.Prelude.{◌&&◌};
     ghost use Rattle.relay_model.specs.Plain.{side_at};
     ghost use Rattle.relay_model.specs.Moments.{is_timed};
+    ghost use Rattle.std.specs.Prelude.{None};
+    ghost use Rattle.ev_types.specs.Sides.{number};
+    ghost use Rattle.rate_group.specs.Steps.{group_of};
 
     /// Whether the side is live and has a timeout for the direction.
     pub(crate) fn is_timed(&self, side: SideId, dir: Dir) -> bool
@@ -107,13 +111,39 @@ impl Ctl {
     /// Whether the side waits for no moment.
     fn is_timeless(&self, side: SideId) -> bool
         requires { side.link < self.now.state.plain.opened }
-        ensures { result ≡ true → IsTimelessSide self.now.state side }
+        ensures { result ≡ true → IsStillSide self.now.state side }
     {
         !self.is_timed(side, Dir::Read)
             && !self.is_timed(side, Dir::Write)
             && !self.is_expired(side)
             && self.may_move(side, Dir::Read)
             && self.may_move(side, Dir::Write)
-            && self.groups.share(side.number() as u64, Dir::Read).is_none()
+            && self.has_share(side)
+    }
+
+    /// Whether the group of a side leaves it something in both directions, where it is in one.
+    #[tactic(auto, using(crate::proofs::HaltLemmas::unhalted_by))]
+    fn has_share(&self, side: SideId) -> bool
+        ensures { result ≡ true → is_halted (number side) self.now.state.groups ≡ false }
+    {
+        let reads = leaves_some(self.groups.share(side.number() as u64, Dir::Read));
+        let writes = leaves_some(self.groups.share(side.number() as u64, Dir::Write));
+        reads && writes
+    }
+
+    /// Whether the side may be in a group.
+    fn is_member(&self, side: SideId) -> bool
+        ensures { result ≡ false → group_of (number side) self.now.state.groups.members ≡ None }
+    {
+        self.groups.share(side.number() as u64, Dir::Read).is_some()
+    }
+
+    /// A link is not one of those with members where neither of its sides is in a group. The In side is given.
+    fn forget_members(&mut self, near: SideId)
+        ensures { self.new ≡ self.old }
+    {
+        if !self.is_member(near) && !self.is_member(near.peer()) {
+            self.grouped.remove(near.link as usize);
+        }
     }
 }

@@ -1,6 +1,6 @@
 -- What hooks ask leaves every link that they don't name as it is, and no count of a link comes far by it.
 use Rattle.std.proofs.Common.{◌≡◌, ◌≢◌, inl, inr, ℕ, zero, suc, ◌<◌, Bool, true, false, ◌&&◌, ◌||◌, nat_le, if◌then◌else◌, List, [], ◌∷◌}
-use Rattle.std.proofs.Common.{◌++◌, Option, Some, None, length, arith, get_or, set, refl, sym, ◌∙◌, ap, subst}
+use Rattle.std.proofs.Common.{◌++◌, Option, Some, None, get_or, set, refl, sym, ◌∙◌, ap, subst}
 use Rattle.std.specs.Prelude.{⊤}
 use Rattle.std.specs.List.{All}
 use Rattle.std.proofs.lemmas.List.Elements.{All-head, All-tail}
@@ -16,10 +16,7 @@ use Rattle.ev_types.specs.declared.why.Why.TheVariants as why
 use Rattle.ev_types.specs.Sides.{number, peer}
 use Rattle.ev_types.specs.Trace.{Event, Trace}
 use Rattle.relay_model.specs.Due.{Reason, with_reason}
-use Rattle.relay_model.specs.Asks.{names_no_group}
-use Rattle.relay_model.specs.Settings.{GroupSet}
 use Rattle.rate_group.specs.Steps.{joined}
-use Rattle.std.proofs.lemmas.Bool.{le-leb}
 use Rattle.relay_model.specs.Flow.{no_flow}
 use Rattle.relay_model.specs.Plain.{Plain, side_at, change_side, is_live}
 use Rattle.relay_model.specs.Reasons.{has_hook}
@@ -33,7 +30,8 @@ use Rattle.relay_drive.specs.Asked.{link_changed, link_changed_by, IsAskedElsewh
 use Rattle.relay_drive.specs.Links.{SameLink, has_spent_count_from, has_spent_count}
 use Rattle.relay_drive.proofs.DispatchLemmas.{one-leaves, one-done}
 use Rattle.relay_drive.proofs.MeantFolds.{Each_is}
-use Rattle.relay_drive.proofs.OtherLinks.{same_link, same_link-then, same_link-is, by_parts, by_gauges, by_groups, parts-side, freed-other, same-waits}
+use Rattle.relay_drive.proofs.OtherLinks.{same_link, same_link-then, same_link-is, by_parts, by_gauges, by_groups, parts-side}
+use Rattle.relay_drive.proofs.OtherLinks.{freed-other, same-waits}
 use Rattle.relay_drive.proofs.OtherLinks.{raise_read-other, raise_write-other, by_leaving}
 
 -- Links that an ask changes

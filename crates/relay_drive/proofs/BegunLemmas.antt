@@ -1,6 +1,7 @@
 -- As a turn begins, time changes nothing at a link whose sides have no timeout that runs.
 use Rattle.std.specs.Prelude.{fold, filter, slice_index_or, slice_set}
-use Rattle.std.proofs.Common.{◌≡◌, ℕ, zero, suc, Bool, true, false, ◌&&◌, not, nat_le, nat_lt, if◌then◌else◌, List, [], ◌∷◌, refl, sym, ◌∙◌, ap}
+use Rattle.std.proofs.Common.{◌≡◌, ℕ, zero, suc, Bool, true, false, ◌&&◌, not, nat_le, nat_lt, if◌then◌else◌, List, [], ◌∷◌, refl, sym}
+use Rattle.std.proofs.Common.{◌∙◌, ap}
 use Rattle.std.proofs.Common.{inl, inr, subst}
 use Rattle.std.proofs.lemmas.List.{get_or-set_other}
 use Rattle.std.proofs.lemmas.Bool.Decides.{eqb_tells}
@@ -142,7 +143,8 @@ leaves-timed z e s d = elim (eqb_tells (number z) (number e)) [
     within : number z ≡ number e → is_timed (side_at s.plain e) d ≡ true → (b c : Bool) → Leaves z s (if b
         then with_plain (change_side e (active_at s.plain.time d) s.plain) s
         else (if c then with_plain (raise s.settings e (happened d timeout_flag) (change_side e (expire d) s.plain)) s else s))
-    within here is true c = own here is (active_at s.plain.time d (side_at s.plain e)) (λ v. active-timed s.plain.time d v (side_at s.plain e))
+    within here is true c = own here is (active_at s.plain.time d (side_at s.plain e))
+        (λ v. active-timed s.plain.time d v (side_at s.plain e))
     within here is false true = raised (expire d (side_at s.plain e))
         (own here is (expire d (side_at s.plain e)) (λ v. expire-timed d v (side_at s.plain e)))
     within here is false false = leaves-same z s

@@ -6,22 +6,20 @@ use Rattle.std.proofs.Common.{refl, sym, ◌∙◌, ap, arith, zero, suc, None}
 use Rattle.token_bucket.specs.declared.limit.Dir.TheVariants as dir
 use Rattle.token_bucket.specs.declared.limit.Dir.{Dir}
 use Rattle.ev_types.specs.declared.side.SideId.{SideId}
-use Rattle.ev_types.specs.Sides.{number, peer}
+use Rattle.ev_types.specs.Sides.{peer}
 use Rattle.ev_types.specs.declared.why.Cause.{Cause}
 use Rattle.ev_types.specs.declared.entry.Entry.{Entry}
 use Rattle.ev_types.specs.declared.entry.Entry.TheVariants as entry
 use Rattle.relay_model.specs.Plain.{PlainSide, side_at}
 use Rattle.relay_model.specs.Close.{fault, freed_entry}
-use Rattle.rate_group.specs.Steps.{share_in}
 use Rattle.relay_state.specs.State.{State}
 use Rattle.relay_state.specs.Passing.{passage_at, round_from}
-use Rattle.relay_state.specs.Rooms.{wants, share}
 use Rattle.relay_state.specs.Closing.{in_side, out_side, closing_entry}
 use Rattle.relay_state.specs.Counting.{is_open}
 use Rattle.relay_core.specs.declared.close.Closing.{Closing}
 use Rattle.relay_core.specs.declared.close.Closing.TheVariants as closing
 use Rattle.relay_core.specs.Steps as steps
-use Rattle.relay_core.specs.Steps.{steps_of, link_of_step, after_closing}
+use Rattle.relay_core.specs.Steps.{steps_of, link_of_step}
 use Rattle.relay_drive.specs.Links.{SameLink, IsStillFrom, IsStill, IsSettled, would_want, has_spent_count}
 
 -- the same is there to be passed, and a round makes the same of it

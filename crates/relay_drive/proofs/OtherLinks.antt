@@ -1,11 +1,10 @@
 -- What each step of a turn leaves of every other link than the one that it is about.
-use Rattle.std.specs.Prelude.{MatchBool, fold, filter, is_some, slice_index_or, slice_set, Option, option_map}
+use Rattle.std.specs.Prelude.{MatchBool, is_some, slice_index_or}
 use Rattle.std.specs.List.{AllByRecursion}
 use Rattle.std.proofs.Common.{◌≡◌, ◌≢◌, ℕ, ◌*◌, ◌<◌, Bool, true, false, ◌&&◌, nat_le, nat_lt, if◌then◌else◌, List, [], ◌∷◌, ◌++◌, length}
 use Rattle.std.proofs.Common.{refl, sym, ◌∙◌, ap, subst, arith}
 use Rattle.std.proofs.lemmas.List.{get_or-set_other, get_or_append_left}
 use Rattle.token_bucket.specs.declared.limit.Dir.TheVariants as dir
-use Rattle.token_bucket.specs.declared.limit.Dir.{Dir}
 use Rattle.ev_types.specs.declared.side.SideId.{SideId}
 use Rattle.ev_types.specs.declared.answer.ConnAnswer.{ConnAnswer}
 use Rattle.ev_types.specs.declared.answer.ConnAnswer.TheVariants as conn
@@ -22,25 +21,23 @@ use Rattle.relay_model.specs.Flow.{Flow, no_flow}
 use Rattle.relay_model.specs.Settings.{Settings}
 use Rattle.relay_model.specs.Due.{with_reason}
 use Rattle.relay_model.specs.Plain as plain
-use Rattle.relay_model.specs.Plain.{Timer, Plain, PlainSide, Standing, no_side, side_at, flow_at, put_side, put_flow, change_side}
+use Rattle.relay_model.specs.Plain.{Plain, PlainSide, no_side, side_at, flow_at, put_side, put_flow, change_side}
 use Rattle.relay_model.specs.Plain.{change_flow}
 use Rattle.relay_model.specs.Plain.{is_live}
 use Rattle.relay_model.specs.Reasons.{has_hook, raise, happened, end_flag, error_flag}
-use Rattle.relay_model.specs.Moments.{active_at, timers_taken}
+use Rattle.relay_model.specs.Moments.{active_at}
 use Rattle.relay_model.specs.Rooms.{is_connecting}
 use Rattle.relay_model.specs.Serve as model
-use Rattle.relay_model.specs.Turn.{turned_to}
 use Rattle.relay_model.proofs.PlainLemmas.{half-below}
-use Rattle.relay_state.specs.Running.{Gauge, no_gauge, held_at}
+use Rattle.relay_state.specs.Running.{Gauge}
 use Rattle.rate_group.specs.GroupValue.{GroupsValue}
-use Rattle.rate_group.specs.GroupsCalls.{no_groups}
-use Rattle.rate_group.specs.Steps.{spent, left}
-use Rattle.relay_state.specs.State.{State, Lane, no_lane, lane_at, gauge_at, gauges_after, with_plain, with_lane, lane_got, lane_taken}
+use Rattle.rate_group.specs.Steps.{left}
+use Rattle.relay_state.specs.State.{State, Lane, no_lane, lane_at, gauges_after, with_plain, with_lane, lane_got, lane_taken}
 use Rattle.relay_state.specs.State.{lane_left}
 use Rattle.relay_state.specs.Passage.{Passage}
 use Rattle.relay_state.specs.Passing.{with_bad, plain_passed, with_passage, PassedFrom, read_run}
-use Rattle.relay_state.specs.Rooms.{wants, allowance, input_length, output_length, read_room, write_room}
-use Rattle.relay_state.specs.Opening.{joined_where, after_opened}
+use Rattle.relay_state.specs.Rooms.{wants, input_length, output_length, read_room, write_room}
+use Rattle.relay_state.specs.Opening.{after_opened}
 use Rattle.relay_state.specs.Serving.{raise_read, raise_write, after_conn, with_got, after_got, after_read, flow_given, with_taken}
 use Rattle.relay_state.specs.Serving.{after_took, after_write}
 use Rattle.relay_state.specs.Closing.{in_side, out_side, closing_entry, freed, without_batch, without_group}
@@ -48,7 +45,6 @@ use Rattle.relay_core.specs.declared.close.Closing.{Closing}
 use Rattle.relay_core.specs.declared.close.Closing.TheVariants as closing
 use Rattle.relay_core.specs.Steps as steps
 use Rattle.relay_core.specs.Steps.{steps_of, link_of_step, after_closing}
-use Rattle.relay_core.specs.Rateless.{HasNoRates}
 use Rattle.relay_drive.specs.Steps.{Nothing, Then, Each}
 use Rattle.relay_drive.specs.PassPhase.{PassesLink}
 use Rattle.relay_drive.specs.ServePhase.{ReadsSide, WritesSide, ConnectsSide, ServesSide}

@@ -1,19 +1,18 @@
 -- A side that waits for no moment wants what it would want.
-use Rattle.std.specs.Prelude.{◌||◌, min, ◌-◌, length, not, option_map, slice_get}
-use Rattle.std.specs.Option.{option_map_or}
-use Rattle.std.proofs.Common.{◌≡◌, ℕ, zero, suc, Bool, true, false, ◌&&◌, nat_le, if◌then◌else◌, Option, Some, None, refl, sym, ◌∙◌, ap, arith}
+use Rattle.std.specs.Prelude.{◌||◌, min, ◌-◌, length, not}
+use Rattle.std.proofs.Common.{◌≡◌, ℕ, zero, suc, Bool, true, false, ◌&&◌, nat_le, if◌then◌else◌, Option, Some, None, refl, sym, ◌∙◌, ap}
+use Rattle.std.proofs.Common.{arith}
 use Rattle.std.proofs.lemmas.Bool.{le-leb}
 use Rattle.token_bucket.specs.declared.limit.Dir.{Dir}
 use Rattle.token_bucket.specs.declared.limit.Dir.TheVariants as dir
 use Rattle.ev_types.specs.declared.side.SideId.{SideId}
-use Rattle.ev_types.specs.Sides.{number, peer}
-use Rattle.rate_group.specs.Steps.{group_of, share_in, share_of, count_in}
+use Rattle.ev_types.specs.Sides.{peer}
 use Rattle.relay_model.specs.Plain.{PlainSide, side_at, is_live}
 use Rattle.relay_model.specs.Rooms.{at_most, most_at_once, read_mark, may_read, may_write, is_connecting}
 use Rattle.relay_state.specs.State.{State}
-use Rattle.relay_state.specs.Rooms.{wants, share, allowance, within_rates, input_length, waiting_for}
+use Rattle.relay_state.specs.Rooms.{share, allowance, within_rates, input_length, waiting_for}
 use Rattle.relay_core.specs.Timeless.{leaves_some, IsTimelessSide}
-use Rattle.relay_drive.specs.Links.{would_want, WantsFreely, IsTimelessLink}
+use Rattle.relay_drive.specs.Links.{WantsFreely, IsTimelessLink}
 
 -- what is cut leaves some where there is some, and the bound leaves some
 at_most-some : (o : Option ℕ) (n : ℕ) → leaves_some o ≡ true → nat_le 1 (at_most o n) ≡ nat_le 1 n
@@ -22,14 +21,10 @@ at_most-some (Some zero) n h = absurd (let wrong : false ≡ true = h in cc)
 at_most-some (Some (suc m)) zero h = let none : min (suc m) 0 ≡ 0 = omega arith in ap (nat_le 1) none
 at_most-some (Some (suc m)) (suc n) h = le-leb 1 (min (suc m) (suc n)) (omega arith) ∙ sym (le-leb 1 (suc n) (omega arith))
 
--- who is in no group has no share
-share-none : (s : State) (e : SideId) (d : Dir) → group_of (number e) s.groups.members ≡ None → share s e d ≡ None
-share-none s e d h = ap (option_map (λ n. option_map_or (λ g. share_of g d (count_in n s.groups.members)) (slice_get s.groups.groups n) 0)) h
-
 within-some : (s : State) (e : SideId) (d : Dir) (n : ℕ) → IsTimelessSide s e → is_live s.plain e ≡ true →
     nat_le 1 (within_rates s e d n) ≡ nat_le 1 n
 within-some s e d n h live =
-    at_most-some (share s e d) (at_most (allowance s e d) n) (ap leaves_some (share-none s e d h.alone))
+    at_most-some (share s e d) (at_most (allowance s e d) n) (h.shared d)
     ∙ at_most-some (allowance s e d) n (h.allowed live d)
 
 -- a room that is open only where the side is live

@@ -91,8 +91,8 @@ impl Drive {
 
     /// Makes one turn. It ends where a hook asked for that, and after such an end or a refusal every later turn is answered so, with no
     /// call of the port and no entry. A turn is refused as spent where a count, or the number of entries, has come to 2^62 as it begins.
-    /// Linear in the links at which something is to be done, in those of sides with a timeout, an empty bucket or a group, in the groups and
-    /// in what it moves, and it looks at a word for each 64 links.
+    /// Linear in the links at which something is to be done, in those of sides with a timeout, an empty bucket or a suspended group, in the
+    /// groups, in what it moves, and in the members of groups where one is suspended in it; and it looks at a word for each 64 links.
     pub fn turn<P: Port, S: Scribe>(
         &mut self,
         seats: &mut Seats,

@@ -1,4 +1,4 @@
-use Rattle.std.proofs.Common.{◌≡◌, ℕ, ◌<◌, false, sym, ◌∙◌, ap, subst, arith}
+use Rattle.std.proofs.Common.{◌≡◌, ℕ, ◌<◌, false, sym, subst, arith}
 use Rattle.ev_types.specs.declared.side.SideId.{SideId}
 use Rattle.relay_core.specs.RelayValue.{RelayValue}
 use Rattle.relay_drive.specs.Agenda.{TouchedEach, IsKept, TellsNames}

@@ -6,5 +6,7 @@ use Rattle.relay_core.proofs.ctl.Ctl.incref.Goals as goal
 
 pub invariant_of-self : goal.invariant_of-self
 invariant_of-self c =
-    changed_sound c.self.inside c.incref.new.self c.args.side (λ (x : PlainSide). record x { references = x.references + 1 }) c.self.invariant c.incref.ensures
+    changed_sound c.self.inside c.incref.new.self c.args.side
+    (λ (x : PlainSide). record x { references = x.references + 1 }) c.self.invariant
+    c.incref.ensures
     (λ x. record { alike = record { live = refl; timeouts = refl; expired = refl; limit = refl }; read = refl; write = refl })

@@ -2,12 +2,13 @@ use Rattle.std.proofs.Common.{◌≡◌, rules, ◌∙◌, Some, sym, ap}
 use Rattle.std.proofs.lemmas.List.{set-get_or}
 use Rattle.ev_types.specs.Sides.{number}
 use Rattle.relay_state.specs.Running.{no_gauge}
-use Rattle.rate_group.specs.GroupValue.{GroupsValue}
-use Rattle.rate_group.specs.Steps.{joined, group_of}
+use Rattle.rate_group.specs.Steps.{joined}
+use Rattle.relay_core.specs.Timeless.{is_halted}
 use Rattle.relay_sides.specs.Links as links
 use Rattle.relay_sides.specs.Links.{Links}
-use Rattle.relay_core.proofs.RelayLemmas.{still_sound, asked_groups_sound}
-use Rattle.relay_core.proofs.WatchLemmas.{watching-more, joined-keeps, numbers-differ}
+use Rattle.relay_core.proofs.RelayLemmas.{still_sound}
+use Rattle.relay_core.proofs.HaltLemmas.{halted-joined}
+use Rattle.relay_core.proofs.WatchLemmas.{watching-more, grouping-joined, grouping-at, numbers-differ}
 use Rattle.relay_core.proofs.ctl.Ctl.join_group.Goals as goal
 
 pub invariant_of-self-2 : goal.invariant_of-self-2
@@ -17,19 +18,22 @@ invariant_of-self-2 c =
     let k = r.sides.links in
     let e = c.args.side in
     let y = record (links.side_at k e) { group = Some c.args.group } in
+    let is : c.change.new.self.value ≡ joined c.args.group (number e) r.groups.value = search rules in
     record {
       timed = still_sound r.settings r.time r.untimed k c.set_group.new.self.links e (λ x. record x { group = Some c.args.group }) h.timed
           (λ p. p) (ap (λ (z : Links). z.sides) c.set_group.ensures) (ap (λ (z : Links). z.gauges) c.set_group.ensures);
       grouped = search rules;
-      watching = watching-more r.watched r.time k r.groups.value.members h.watching c.insert.new.self c.set_group.new.self.links
-          c.change.new.self.value.members e y (links.gauge_at k e) c.insert.ensures.members c.insert.ensures.len
+      watching = watching-more r.watched r.time k r.groups.value h.watching c.insert.new.self c.set_group.new.self.links
+          c.change.new.self.value e y (links.gauge_at k e) c.insert.ensures.members c.insert.ensures.len
           (ap (λ (z : Links). z.sides) c.set_group.ensures)
           (ap (λ (z : Links). z.gauges) c.set_group.ensures ∙ sym (set-get_or k.gauges (number e) no_gauge))
           (ap (λ (z : Links). z.opened) c.set_group.ensures)
-          (λ z other none.
-          let is : c.change.new.self.value ≡ joined c.args.group (number e) r.groups.value = search rules in
-          ap (λ (x : GroupsValue). group_of (number z) x.members) is
-          ∙ joined-keeps (number z) (number e) c.args.group r.groups.value (numbers-differ e z other) none);
+          (λ z other was. ap (is_halted (number z)) is ∙ halted-joined (Some c.args.group) e (number z) r.groups.value
+          (numbers-differ e z other) was);
+      grouping = grouping-joined r.grouped c.insert-2.new.self c.set_group.new.self.links.opened e c.args.group r.groups.value
+          c.change.new.self.value is c.insert-2.ensures.members c.insert-2.ensures.len
+          (grouping-at r.grouped k.opened c.set_group.new.self.links.opened r.groups.value.members
+          (ap (λ (z : Links). z.opened) c.set_group.ensures) h.grouping);
       time = h.time;
       few = h.few;
       room = h.room;

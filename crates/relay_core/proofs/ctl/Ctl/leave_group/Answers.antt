@@ -1,9 +1,14 @@
-use Rattle.std.proofs.Common.{None, refl, ap}
+use Rattle.std.proofs.Common.{◌∙◌, None, ap, sym}
+use Rattle.std.proofs.lemmas.List.{set-get_or}
+use Rattle.relay_state.specs.Running.{no_gauge}
+use Rattle.relay_sides.specs.Links as links
 use Rattle.ev_types.specs.Sides.{number}
 use Rattle.rate_group.specs.GroupValue.{GroupsValue}
 use Rattle.relay_sides.specs.Links.{Links}
+use Rattle.relay_core.specs.Timeless.{is_halted}
 use Rattle.relay_core.proofs.RelayLemmas.{still_sound, left_sound}
-use Rattle.relay_core.proofs.WatchLemmas.{watching-left, watching-changed}
+use Rattle.relay_core.proofs.HaltLemmas.{halted-left}
+use Rattle.relay_core.proofs.WatchLemmas.{watching-more, grouping-left, grouping-at, numbers-differ}
 use Rattle.relay_core.proofs.ctl.Ctl.leave_group.Goals as goal
 
 pub invariant_of-self : goal.invariant_of-self
@@ -12,15 +17,21 @@ invariant_of-self c =
     let h = c.self.invariant in
     let k = r.sides.links in
     let e = c.args.side in
-    let members = c.leave.new.groups.value.members in
-    let away = watching-left r.watched r.time k r.groups.value.members h.watching (number e) members
-    (ap (λ (z : GroupsValue). z.members) c.leave.ensures) in
     record {
       timed = still_sound r.settings r.time r.untimed k c.set_group.new.self.links e (λ x. record x { group = None }) h.timed (λ p. p)
           (ap (λ (z : Links). z.sides) c.set_group.ensures) (ap (λ (z : Links). z.gauges) c.set_group.ensures);
       grouped = left_sound r.given r.untimed r.groups.value c.leave.new.groups.value (number e) h.grouped c.leave.ensures;
-      watching = watching-changed r.watched r.time k members away c.set_group.new.self.links e (λ x. record x { group = None })
-          c.set_group.ensures (λ x. record { live = refl; timeouts = refl; expired = refl; limit = refl });
+      watching = watching-more r.watched r.time k r.groups.value h.watching c.insert.new.self c.set_group.new.self.links
+          c.leave.new.groups.value e (record (links.side_at k e) { group = None }) (links.gauge_at k e) c.insert.ensures.members
+          c.insert.ensures.len (ap (λ (z : Links). z.sides) c.set_group.ensures)
+          (ap (λ (z : Links). z.gauges) c.set_group.ensures ∙ sym (set-get_or k.gauges (number e) no_gauge))
+          (ap (λ (z : Links). z.opened) c.set_group.ensures)
+          (λ z other was. ap (is_halted (number z)) c.leave.ensures ∙ halted-left (number e) (number z) r.groups.value
+          (numbers-differ e z other) was);
+      grouping = grouping-left r.grouped c.set_group.new.self.links.opened (number e) r.groups.value.members
+          c.leave.new.groups.value.members (ap (λ (z : GroupsValue). z.members) c.leave.ensures)
+          (grouping-at r.grouped k.opened c.set_group.new.self.links.opened r.groups.value.members
+          (ap (λ (z : Links). z.opened) c.set_group.ensures) h.grouping);
       time = h.time;
       few = h.few;
       room = h.room;

@@ -1,7 +1,7 @@
-use Rattle.std.proofs.Common.{◌≡◌, true, None, rules, ◌∙◌, sym, ap}
+use Rattle.std.proofs.Common.{◌≡◌, true, None, rules, ap}
 use Rattle.relay_sides.specs.Links.{Links}
 use Rattle.relay_core.proofs.RelayLemmas.{lowered, lowered_groups, limited_sound}
-use Rattle.relay_core.proofs.WatchLemmas.{watching-more}
+use Rattle.relay_core.proofs.WatchLemmas.{watching-more, grouping-at}
 use Rattle.relay_core.proofs.ctl.Ctl.set_rate.Goals as goal
 
 pub invariant_of-self : goal.invariant_of-self
@@ -15,11 +15,13 @@ invariant_of-self c =
       timed = limited_sound r.settings r.time c.if-self.self r.turns k c.set_limit.new.self.links e c.args.cfg (λ t. (down t).1)
           (lowered r.settings r.time r.untimed c.if-self.self k (λ t. (down t).0) h.timed) c.set_limit.ensures.links;
       grouped = lowered_groups r.given r.untimed c.if-self.self r.groups.value (λ t. (down t).0) h.grouped;
-      watching = watching-more r.watched r.time k r.groups.value.members h.watching c.insert.new.self c.set_limit.new.self.links
-          r.groups.value.members e _ _ c.insert.ensures.members c.insert.ensures.len
+      watching = watching-more r.watched r.time k r.groups.value h.watching c.insert.new.self c.set_limit.new.self.links
+          r.groups.value e _ _ c.insert.ensures.members c.insert.ensures.len
           (ap (λ (z : Links). z.sides) c.set_limit.ensures.links)
           (ap (λ (z : Links). z.gauges) c.set_limit.ensures.links)
           (ap (λ (z : Links). z.opened) c.set_limit.ensures.links) (λ z other none. none);
+      grouping = grouping-at r.grouped r.sides.links.opened c.set_limit.new.self.links.opened r.groups.value.members
+          (ap (λ (z : Links). z.opened) c.set_limit.ensures.links) h.grouping;
       time = h.time;
       few = search rules;
       room = search rules;

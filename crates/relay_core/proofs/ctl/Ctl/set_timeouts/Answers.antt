@@ -4,7 +4,7 @@ use Rattle.ev_types.specs.Sides.{number}
 use Rattle.relay_state.specs.Running.{no_gauge}
 use Rattle.relay_sides.specs.Links as links
 use Rattle.relay_sides.specs.Links.{Links}
-use Rattle.relay_core.proofs.WatchLemmas.{watching-more}
+use Rattle.relay_core.proofs.WatchLemmas.{watching-more, grouping-at}
 use Rattle.relay_core.proofs.ctl.Ctl.set_timeouts.Goals as goal
 
 pub invariant_of-self : goal.invariant_of-self
@@ -16,11 +16,13 @@ invariant_of-self c =
     record {
       timed = search rules;
       grouped = search rules;
-      watching = watching-more r.watched r.time k r.groups.value.members h.watching c.insert.new.self c.set_timeouts.new.self.links
-          r.groups.value.members e _ (links.gauge_at k e) c.insert.ensures.members c.insert.ensures.len
+      watching = watching-more r.watched r.time k r.groups.value h.watching c.insert.new.self c.set_timeouts.new.self.links
+          r.groups.value e _ (links.gauge_at k e) c.insert.ensures.members c.insert.ensures.len
           (ap (λ (z : Links). z.sides) c.set_timeouts.ensures)
           (ap (λ (z : Links). z.gauges) c.set_timeouts.ensures ∙ sym (set-get_or k.gauges (number e) no_gauge))
           (ap (λ (z : Links). z.opened) c.set_timeouts.ensures) (λ z other none. none);
+      grouping = grouping-at r.grouped r.sides.links.opened c.set_timeouts.new.self.links.opened r.groups.value.members
+          (ap (λ (z : Links). z.opened) c.set_timeouts.ensures) h.grouping;
       time = h.time;
       few = h.few;
       room = h.room;

@@ -1,4 +1,4 @@
-use Rattle.std.proofs.Common.{◌≡◌, ◌∙◌, ◌<◌, ap, sym, arith}
+use Rattle.std.proofs.Common.{◌∙◌, sym, arith}
 use Rattle.std.specs.List.{list_any}
 use Rattle.relay_core.specs.Waits.{is_expired}
 use Rattle.relay_core.proofs.TimeLemmas.{any-here, any-more}
@@ -34,5 +34,6 @@ pub returns : goal.returns
 returns c =
     let inv = c.loop-link.invariant in
     let s = c.args.self.now.state in
-    sym (skips-all (list_any (is_expired s)) s.plain.opened c.loop-link.from inv.within (λ e a b. any-none s e (c.in_default.ensures e a b)))
+    sym (skips-all (list_any (is_expired s)) s.plain.opened c.loop-link.from inv.within
+    (λ e a b. any-none s e (c.in_default.ensures e a b)))
     ∙ inv.rest

@@ -11,6 +11,7 @@ invariant_of-self-inside c =
 
 pub invariant_of-self-inside-in-Failed : goal.invariant_of-self-inside-in-Failed
 invariant_of-self-inside-in-Failed c =
-    changed_sound c.self-inside-in-Failed.inside.0.0 c.write_failed.new.self c.args.side (λ (x : PlainSide). record x { failed = true; writes = false })
+    changed_sound c.self-inside-in-Failed.inside.0.0 c.write_failed.new.self c.args.side
+    (λ (x : PlainSide). record x { failed = true; writes = false })
     c.self-inside-in-Failed.invariant c.write_failed.ensures
     (λ x. record { alike = record { live = refl; timeouts = refl; expired = refl; limit = refl }; read = refl; write = refl })

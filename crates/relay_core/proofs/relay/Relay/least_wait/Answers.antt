@@ -1,4 +1,4 @@
-use Rattle.std.proofs.Common.{◌≡◌, ◌∙◌, ◌+◌, ◌-◌, ap, sym, arith}
+use Rattle.std.proofs.Common.{◌∙◌, ◌+◌, ◌-◌, ap, sym, arith}
 use Rattle.ev_types.specs.declared.side.Side.TheVariants.{In, Out}
 use Rattle.ev_types.specs.declared.side.SideId.{SideId}
 use Rattle.relay_model.specs.Plain.{sides_from}
@@ -27,7 +27,8 @@ loop-link-preserved c =
           ∙ wait_more s c.loop-link.least near far rest
           ∙ ap (λ es. earlier c.loop-link.least (wait_until s.plain.time (expiries s es))) (sym (sides_from-more k n found.1))
           ∙ ap (λ ms. earlier c.loop-link.least (wait_until s.plain.time ms))
-          (sym (skips (expiries s) n c.loop-link.from k found.0 (let lt = found.1 in omega (arith, lt)) (λ e a x. expiries-none s e (found.3 e a x))))
+          (sym (skips (expiries s) n c.loop-link.from k found.0 (let lt = found.1 in omega (arith, lt))
+          (λ e a x. expiries-none s e (found.3 e a x))))
           ∙ inv.rest;
     }
 

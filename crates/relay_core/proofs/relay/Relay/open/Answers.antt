@@ -2,10 +2,10 @@ use Rattle.std.proofs.Common.{◌≡◌, ℕ, ◌==◌, true, if◌then◌else�
 use Rattle.ev_types.specs.declared.side.SideId.{SideId}
 use Rattle.ev_types.specs.declared.side.Side.TheVariants.{In}
 use Rattle.relay_sides.specs.declared.opening.NewSide.{NewSide}
-use Rattle.relay_sides.specs.Links.{with_link}
+use Rattle.relay_sides.specs.Links.{Links, with_link}
 use Rattle.relay_state.specs.Opening.{joined_where}
 use Rattle.relay_core.proofs.RelayLemmas.{opened_sound, opened_groups_sound}
-use Rattle.relay_core.proofs.WatchLemmas.{watching-opened}
+use Rattle.relay_core.proofs.WatchLemmas.{watching-opened, grouping-opened}
 use Rattle.relay_core.proofs.relay.Relay.open.Goals as goal
 
 pub invariant_of-ctl : goal.invariant_of-ctl
@@ -31,6 +31,14 @@ invariant_of-ctl c =
           c.insert.ensures.len c.open.ensures.links c.opened.ensures.count
           (ap (λ (e : SideId). e.link) c.peer.ensures ∙ c.opened.ensures.count) c.join_where.ensures.value
           c.join_where-2.ensures.value;
+      grouping = grouping-opened r.grouped c.insert-2.new.self r.sides.links.opened c.open.new.self.links.opened
+          (record { link = c.opened.result; side = In }) c.peer.result c.near_side-near.result.group c.far_side-far.result.group
+          r.groups.value
+          c.join_where.new.groups.value c.join_where-2.new.groups.value (ap (λ (z : Links). z.opened) c.open.ensures.links) (search rules)
+          c.opened.ensures.count
+          (ap (λ (e : SideId). e.link) c.peer.ensures ∙ c.opened.ensures.count) c.join_where.ensures.value c.join_where-2.ensures.value
+          (subst (λ o. (n : ℕ) → c.insert-2.new.self.has n ≡ (if n == o then true else r.grouped.has n)) c.opened.ensures.count
+          c.insert-2.ensures.members) c.insert-2.ensures.len h.grouping;
       time = h.time;
       few = omega arith;
       room = (let room = h.room in let few = h.few in omega (arith, room, few));

@@ -1,7 +1,7 @@
 use Rattle.std.proofs.Common.{◌∙◌, ap}
 use Rattle.relay_core.specs.declared.relay.Relay.TheInside.{Inside}
 use Rattle.relay_core.proofs.RelayLemmas.{passed_sound, state_passes, state_still, state_apart}
-use Rattle.relay_core.proofs.WatchLemmas.{watching-passed}
+use Rattle.relay_core.proofs.WatchLemmas.{watching-passed, grouping-passed}
 use Rattle.relay_core.proofs.relay.Relay.pass.Goals as goal
 
 pub invariant_of-self-inside : goal.invariant_of-self-inside
@@ -10,6 +10,7 @@ invariant_of-self-inside c =
     record {
       timed = passed_sound _ _ _ _ _ _ c.args.from _ _ c.pass.result h.timed c.pass.ensures.passed;
       grouped = h.grouped;
+      grouping = grouping-passed _ _ _ _ _ c.args.from _ _ c.pass.result h.grouping c.pass.ensures.passed;
       watching = watching-passed _ _ _ _ h.watching _ _ c.args.from _ _ c.pass.result c.pass.ensures.passed;
       time = h.time;
       few = h.few;

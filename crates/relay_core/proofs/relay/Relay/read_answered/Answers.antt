@@ -3,10 +3,11 @@ use Rattle.ev_types.specs.Sides.{number}
 use Rattle.relay_model.specs.Plain.{PlainSide}
 use Rattle.relay_state.specs.Passing.{read_run}
 use Rattle.relay_state.specs.Serving.{after_read, after_got, raise_read}
+use Rattle.relay_sides.specs.Links.{Links}
 use Rattle.relay_core.specs.declared.relay.Relay.TheInside.{Inside}
 use Rattle.relay_core.specs.RelayValue.{RelayValue}
 use Rattle.relay_core.proofs.RelayLemmas.{got_sound, got_seen, got_unspent}
-use Rattle.relay_core.proofs.WatchLemmas.{watching-got, changed_sound}
+use Rattle.relay_core.proofs.WatchLemmas.{watching-got, changed_sound, grouping-at}
 use Rattle.relay_core.proofs.relay.Relay.read_answered.Goals as goal
 
 pub got-requires-clause-room : goal.got-requires-clause-room
@@ -21,6 +22,7 @@ invariant_of-self-inside c =
     record {
       timed = got_sound _ _ _ _ _ c.args.side c.args.bytes.now h.timed c.got.ensures;
       grouped = h.grouped;
+      grouping = grouping-at _ _ _ _ (ap (λ (z : Links). z.opened) c.got.ensures) h.grouping;
       watching = watching-got _ _ _ _ _ c.args.side c.args.bytes.now h.watching c.got.ensures;
       time = h.time;
       few = h.few;
@@ -30,13 +32,15 @@ invariant_of-self-inside c =
 
 pub invariant_of-self-inside-in-Ended : goal.invariant_of-self-inside-in-Ended
 invariant_of-self-inside-in-Ended c =
-    changed_sound c.self-inside-in-Ended.inside.0.0 c.ended.new.self c.args.side (λ (x : PlainSide). record x { ended = true; reads = false })
+    changed_sound c.self-inside-in-Ended.inside.0.0 c.ended.new.self c.args.side
+    (λ (x : PlainSide). record x { ended = true; reads = false })
     c.self-inside-in-Ended.invariant c.ended.ensures
     (λ x. record { alike = record { live = refl; timeouts = refl; expired = refl; limit = refl }; read = refl; write = refl })
 
 pub invariant_of-self-inside-in-Failed : goal.invariant_of-self-inside-in-Failed
 invariant_of-self-inside-in-Failed c =
-    changed_sound c.self-inside-in-Failed.inside.0.0 c.read_failed.new.self c.args.side (λ (x : PlainSide). record x { failed = true; reads = false })
+    changed_sound c.self-inside-in-Failed.inside.0.0 c.read_failed.new.self c.args.side
+    (λ (x : PlainSide). record x { failed = true; reads = false })
     c.self-inside-in-Failed.invariant c.read_failed.ensures
     (λ x. record { alike = record { live = refl; timeouts = refl; expired = refl; limit = refl }; read = refl; write = refl })
 

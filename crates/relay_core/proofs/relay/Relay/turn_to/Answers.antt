@@ -20,11 +20,13 @@ invariant_of-self-inside c =
     record {
       timed = record {
         unset = h.timed.unset;
-        sides = λ i d lt. let p = h.timed.sides i d lt in let a = p.0 in let b = p.1 in (omega (arith, a, later), omega (arith, b, later), p.2);
+        sides = λ i d lt. let p = h.timed.sides i d lt in let a = p.0 in let b = p.1 in
+            (omega (arith, a, later), omega (arith, b, later), p.2);
         gauges = λ i d lt. let p = h.timed.gauges i d lt in omega (arith, p, later);
       };
       grouped = h.grouped;
-      watching = watching-later r.watched r.time r.sides.links r.groups.value.members h.watching to later;
+      watching = watching-later r.watched r.time r.sides.links r.groups.value h.watching to later;
+      grouping = h.grouping;
       time = (let bound = h.time in omega (arith, bound, c.max-self-inside-inside.ensures, c.min.ensures));
       few = h.few;
       room = h.room;

@@ -6,7 +6,7 @@ use Rattle.relay_sides.specs.Links as links
 use Rattle.relay_sides.specs.Links.{Links}
 use Rattle.relay_core.proofs.RelayLemmas.{still_sound}
 use Rattle.relay_core.proofs.TimeLemmas.{active_sound}
-use Rattle.relay_core.proofs.WatchLemmas.{changed_sound, watching-took}
+use Rattle.relay_core.proofs.WatchLemmas.{changed_sound, watching-took, grouping-at}
 use Rattle.relay_core.proofs.relay.Relay.write_answered.Goals as goal
 
 pub invariant_of-self-inside : goal.invariant_of-self-inside
@@ -20,7 +20,9 @@ invariant_of-self-inside c =
           (active_sound r.time r.untimed dir.Write (links.side_at k e))
           (ap (λ (z : Links). z.sides) c.took.ensures) (ap (λ (z : Links). z.gauges) c.took.ensures);
       grouped = h.grouped;
-      watching = watching-took r.watched r.time k c.took.new.self.links r.groups.value.members e _ h.watching c.took.ensures;
+      watching = watching-took r.watched r.time k c.took.new.self.links r.groups.value e _ h.watching c.took.ensures;
+      grouping = grouping-at r.grouped r.sides.links.opened c.took.new.self.links.opened r.groups.value.members
+          (ap (λ (z : Links). z.opened) c.took.ensures) h.grouping;
       time = h.time;
       few = h.few;
       room = h.room;
@@ -29,6 +31,7 @@ invariant_of-self-inside c =
 
 pub invariant_of-self-inside-in-Failed : goal.invariant_of-self-inside-in-Failed
 invariant_of-self-inside-in-Failed c =
-    changed_sound c.self-inside-in-Failed.inside.0.0 c.write_failed.new.self c.args.side (λ (x : PlainSide). record x { failed = true; writes = false })
+    changed_sound c.self-inside-in-Failed.inside.0.0 c.write_failed.new.self c.args.side
+    (λ (x : PlainSide). record x { failed = true; writes = false })
     c.self-inside-in-Failed.invariant c.write_failed.ensures
     (λ x. record { alike = record { live = refl; timeouts = refl; expired = refl; limit = refl }; read = refl; write = refl })

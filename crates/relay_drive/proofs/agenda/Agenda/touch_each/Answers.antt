@@ -29,10 +29,14 @@ loop-link-preserved c =
       close_len = t.close_len ∙ inv.close_len;
       want_len = t.want_len ∙ inv.want_len;
       live_len = t.live_len ∙ inv.live_len;
-      to_pass = touched-next set c.args.self.now.to_pass c.loop-link.self.to_pass c.touch.new.self.to_pass from k t.to_pass between inv.to_pass;
-      to_close = touched-next set c.args.self.now.to_close c.loop-link.self.to_close c.touch.new.self.to_close from k t.to_close between inv.to_close;
-      to_name = touched-next set c.args.self.now.to_name c.loop-link.self.to_name c.touch.new.self.to_name from k t.to_name between inv.to_name;
-      maybe_open = touched-next set c.args.self.now.maybe_open c.loop-link.self.maybe_open c.touch.new.self.maybe_open from k t.maybe_open between inv.maybe_open;
+      to_pass = touched-next set c.args.self.now.to_pass c.loop-link.self.to_pass c.touch.new.self.to_pass
+          from k t.to_pass between inv.to_pass;
+      to_close = touched-next set c.args.self.now.to_close c.loop-link.self.to_close c.touch.new.self.to_close
+          from k t.to_close between inv.to_close;
+      to_name = touched-next set c.args.self.now.to_name c.loop-link.self.to_name c.touch.new.self.to_name
+          from k t.to_name between inv.to_name;
+      maybe_open = touched-next set c.args.self.now.maybe_open c.loop-link.self.maybe_open c.touch.new.self.maybe_open
+          from k t.maybe_open between inv.maybe_open;
     }
 
 pub returns : goal.returns
