@@ -58,4 +58,5 @@ open-same s (suc n) = let less = open-same s n in λ i. less i + (if is_open s n
 pub counts_are_as_told : CountsAreAsTold
 counts_are_as_told t x s k =
     let same = links-told t x s k in
-    ((buffered_is_underway t x s k).all ∙ ap (λ n. underway_below t s n) (sym same) ∙ below-sum t s s.plain.opened, open-same s s.plain.opened)
+    ((buffered_is_underway t x s k).all ∙ ap (λ n. underway_below t s n) (sym same) ∙ below-sum t s s.plain.opened,
+        open-same s s.plain.opened)

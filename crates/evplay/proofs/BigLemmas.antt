@@ -55,9 +55,6 @@ none-seated tells n hooks none =
 
 -- No poll fails
 
-no-poll-fails-with : (bytes : List ℕ) (link : ℕ) (rest : List TurnLine) → list_any fails_poll (lines_with bytes link ++ rest) ≡ list_any fails_poll rest
-no-poll-fails-with bytes link rest = refl
-
 from-none : (each n link x : ℕ) → list_any fails_poll (lines_from each n link x) ≡ false
 from-none each zero link x = refl
 from-none each (suc n) link x = from-none each n (link + 1) (number_after each x)

@@ -169,7 +169,8 @@ pub lines_of-turn : (turns : List ScriptTurn) (ms : ℕ) → lines_of (turns ++ 
 lines_of-turn [] ms = refl
 lines_of-turn (t ∷ more) ms = ap (λ z. t.1 ++ z) (lines_of-turn more ms)
 
-pub lines_of-with_line : (turns : List ScriptTurn) (x : TurnLine) → 0 < length turns → lines_of (with_line turns x) ≡ lines_of turns ++ x ∷ []
+pub lines_of-with_line : (turns : List ScriptTurn) (x : TurnLine) → 0 < length turns →
+    lines_of (with_line turns x) ≡ lines_of turns ++ x ∷ []
 lines_of-with_line [] x h = absurd (omega (arith, h))
 lines_of-with_line (t ∷ []) x h = append-nil (t.1 ++ x ∷ []) ∙ ap (λ z. z ++ x ∷ []) (sym (append-nil t.1))
 lines_of-with_line (t ∷ next ∷ more) x h =

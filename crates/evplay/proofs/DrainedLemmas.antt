@@ -28,7 +28,8 @@ drained-so : (turns : List ScriptTurn) (g : Settings) (t : Trace) (links : List 
 drained-so turns g t links closing small names relayed answered took played can (inl drains) = record {
   drains = drains.0;
   few = drains_in_most turns g TurnAnswer.Went t drains.0;
-  done = drained_links_are_done frees_are_of_done most_is_bounded (closing_turns_are_few frees_are_of_done) g turns t links can (countable g turns small names) relayed answered took played.1 drains.0 drains.1;
+  done = drained_links_are_done frees_are_of_done most_is_bounded (closing_turns_are_few frees_are_of_done) g turns t links can
+      (countable g turns small names) relayed answered took played.1 drains.0 drains.1;
 }
 drained-so turns g t links closing small names relayed answered took played can (inr early) = absurd (early.ended refl)
 

@@ -110,7 +110,8 @@ module _ (script : ScriptValue) (how : Ending) (handed : HandedIn) (n : ℕ) (g 
       e.asks asked (subst (λ z. AtTurnEnds (StoodBetween z) t) on e.ends)
 
 -- hooks that told a plan asked what is planned
-pub planned-to : {H : Type 0} (tells : Telling H) (end : RunEnd) (plan : SideId → List PlanLine) (hooks gone : List (Option H)) (t : Trace) →
+pub planned-to : {H : Type 0} (tells : Telling H) (end : RunEnd) (plan : SideId →
+    List PlanLine) (hooks gone : List (Option H)) (t : Trace) →
     ToldTo tells end plan hooks gone t → AskPlanned plan (answer_of end) t
 planned-to tells run_end.Went lines hooks gone t told = all_told-planned tells lines hooks gone t told
 planned-to tells run_end.PollFailed lines hooks gone t told = told
@@ -119,7 +120,8 @@ planned-to tells (run_end.Stopped link turn) lines hooks gone t told = told
 module _ (script : ScriptValue) (how : Ending) (handed : HandedIn) (n : ℕ) (g : Settings) (first : PortState) (ready : MayRun n g first)
     (on : g ≡ settings_on script handed) where
   -- a run without closing turns
-  pub run-ended : (end : RunEnd) (d : DriveValue) (p : PortState) (t : Trace) → CameTo g n end (first_plan first.turns (closing_step g)) d p t →
+  pub run-ended : (end : RunEnd) (d : DriveValue) (p : PortState) (t : Trace) →
+      CameTo g n end (first_plan first.turns (closing_step g)) d p t →
       (how ≡ ending.LastTurn) ⊎ (end ≢ run_end.Went) →
       (handed.tell ≡ true → AskPlanned (plan_of (script_run script)) (answer_of end) t) →
       IsRun (script_over script first) how handed (answer_of end) t (lines_below d.state d.state.plain.opened)
@@ -152,7 +154,8 @@ module _ (script : ScriptValue) (how : Ending) (handed : HandedIn) (n : ℕ) (g 
       IsRun (script_over script first) how handed (answer_of end) t (lines_below d.state d.state.plain.opened)
   run-drained end d p t drained came asked =
       run-to script how handed n g first p came.closing d t ready on end
-      (subst (λ m. CameTo g (m + came.closing) end (closing_plan first.turns (closing_step g) came.closing) d p t) (sym ready.many) came.came)
+      (subst (λ m. CameTo g (m + came.closing) end (closing_plan first.turns (closing_step g) came.closing) d p t)
+          (sym ready.many) came.came)
       (subst (λ h. EndsAs h first.turns g (answer_of end) came.closing t) (sym drained) (inl came.drains)) asked
 
 -- why a run was refused is why its text is, or memory ran out for that

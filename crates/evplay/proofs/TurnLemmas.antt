@@ -123,7 +123,8 @@ module _ (g : Settings) (n : ℕ) (plan : ScriptPlan) (d new : DriveValue) (p q 
         turns = omega (arith, count-append t w.added, once, inv.turns);
         seen = w.told (Question.Took plan) t inv.stands inv.seen;
         left = subst (λ z. LeftFor (turn_answer_of z) u new.state) polled (w.means t inv.means);
-        ends = ends-grow (StoodBetween g) t w.added inv.ends (stood-at g t Stage.Between s inv.settings inv.means) (cut-poll-first cut) once;
+        ends = ends-grow (StoodBetween g) t w.added inv.ends (stood-at g t Stage.Between s inv.settings inv.means)
+            (cut-poll-first cut) once;
       }
 
 -- it ended with at most more turns

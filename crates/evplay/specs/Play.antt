@@ -1,5 +1,6 @@
 -- What a call of `play` read and wrote, by its status.
-use Rattle.std.specs.Prelude.{◌≡◌, ◌<◌, ◌≤◌, ◌⊎◌, ℕ, ◌^◌, ◌-◌, min, ⊤, true, false, List, [], ◌++◌, length, take, Option, Some, None, Ok, Err}
+use Rattle.std.specs.Prelude.{◌≡◌, ◌<◌, ◌≤◌, ◌⊎◌, ℕ, ◌^◌, ◌-◌, min, ⊤, true, false, List, [], ◌++◌, length, take, Option, Some, None, Ok}
+use Rattle.std.specs.Prelude.{Err}
 use Rattle.ev_types.specs.declared.status.Status.{Status}
 use Rattle.ev_types.specs.declared.status.Status.TheVariants as status
 use Rattle.ev_types.specs.Trace.{Trace}

@@ -75,14 +75,16 @@ loop-made-preserved g c =
     let calm : c.turn.new.self.kept ≡ None = c.in-Ok-Went.ensures.answer ∙ ap (λ x. kept_of (Ok x)) c.in-Ok-Went.field-0-is in
     let did : Turns d.state w.added c.turn.new.self.state =
     subst (λ x. EndsTurn x d.state w.added c.turn.new.self.state) c.in-Ok-Went.field-0-is w.does in
-    let next = stands-more gs (length turns + made) (closing_plan turns step (made + 1)) d c.turn.new.self q c.turn.new.port t log log' _ _ _
+    let next = stands-more gs (length turns + made) (closing_plan turns step
+        (made + 1)) d c.turn.new.self q c.turn.new.port t log log' _ _ _
     stands c.in-Ok-Went.field-0 c.in-Ok-Went.field-0-is calm w in
     let counted : length turns + made + 1 ≡ length turns + (made + 1) = omega arith in
     let more = called-for gs turns step made d p t small names inv.stands c.most_closing_turns-most.result _ inv.most c.loop-made-test.true
     c.has_open_links.result c.has_open_links.ensures c.if-has_open_links.true in
     record {
       tells = longer.1;
-      stands = rw longer.0 (subst (λ n. StandsAfter gs n (closing_plan turns step (made + 1)) c.turn.new.self c.turn.new.port (t ++ w.added))
+      stands = rw longer.0 (subst (λ n. StandsAfter gs n (closing_plan turns step (made + 1)) c.turn.new.self c.turn.new.port
+          (t ++ w.added))
           counted next);
       closes = rw longer.0 (closing-more gs turns (trace_in (g.S.Scribe.trace c.args.scribe.now)) c.args.drive.now.state.plain t w.added
           inv.closes more (turn-first did) (turn-once did));

@@ -49,7 +49,8 @@ make_closing_turns-requires-clause-small g c =
     let d = c.make_script_turns.new.drive in
     let p = c.make_script_turns.new.port in
     let log = g.S.Scribe.trace c.make_script_turns.new.scribe in
-    let stood = stood-so gs c.args.turns first c.args.step c.in_ok-end.end d p log c.in-Drained-Went.is-1 (c.in_ok-end.ensures.came c.args.step) in
+    let stood = stood-so gs c.args.turns first c.args.step c.in_ok-end.end d p log c.in-Drained-Went.is-1
+        (c.in_ok-end.ensures.came c.args.step) in
     let same = same-turns gs c.args.turns first c.args.step d p log stood in
     subst AreSmall (sym same) c.requires.may_run.small
 
@@ -60,7 +61,8 @@ make_closing_turns-requires-clause-names g c =
     let d = c.make_script_turns.new.drive in
     let p = c.make_script_turns.new.port in
     let log = g.S.Scribe.trace c.make_script_turns.new.scribe in
-    let stood = stood-so gs c.args.turns first c.args.step c.in_ok-end.end d p log c.in-Drained-Went.is-1 (c.in_ok-end.ensures.came c.args.step) in
+    let stood = stood-so gs c.args.turns first c.args.step c.in_ok-end.end d p log c.in-Drained-Went.is-1
+        (c.in_ok-end.ensures.came c.args.step) in
     let same = same-turns gs c.args.turns first c.args.step d p log stood in
     subst (λ z. NamesOpened 0 (lines_of z)) (sym same) c.requires.may_run.names
 
@@ -71,7 +73,8 @@ make_closing_turns-requires-clause-links g c =
     let d = c.make_script_turns.new.drive in
     let p = c.make_script_turns.new.port in
     let log = g.S.Scribe.trace c.make_script_turns.new.scribe in
-    let stood = stood-so gs c.args.turns first c.args.step c.in_ok-end.end d p log c.in-Drained-Went.is-1 (c.in_ok-end.ensures.came c.args.step) in
+    let stood = stood-so gs c.args.turns first c.args.step c.in_ok-end.end d p log c.in-Drained-Went.is-1
+        (c.in_ok-end.ensures.came c.args.step) in
     let same = same-turns gs c.args.turns first c.args.step d p log stood in
     ap (λ (z : Settings). z.links) stood.1.settings ∙ c.requires.may_run.links
 
@@ -82,7 +85,8 @@ make_closing_turns-requires-clause-many g c =
     let d = c.make_script_turns.new.drive in
     let p = c.make_script_turns.new.port in
     let log = g.S.Scribe.trace c.make_script_turns.new.scribe in
-    let stood = stood-so gs c.args.turns first c.args.step c.in_ok-end.end d p log c.in-Drained-Went.is-1 (c.in_ok-end.ensures.came c.args.step) in
+    let stood = stood-so gs c.args.turns first c.args.step c.in_ok-end.end d p log c.in-Drained-Went.is-1
+        (c.in_ok-end.ensures.came c.args.step) in
     let same = same-turns gs c.args.turns first c.args.step d p log stood in
     c.requires.may_run.many ∙ ap length (sym same)
 
@@ -93,7 +97,8 @@ make_closing_turns-requires-clause-step g c =
     let d = c.make_script_turns.new.drive in
     let p = c.make_script_turns.new.port in
     let log = g.S.Scribe.trace c.make_script_turns.new.scribe in
-    let stood = stood-so gs c.args.turns first c.args.step c.in_ok-end.end d p log c.in-Drained-Went.is-1 (c.in_ok-end.ensures.came c.args.step) in
+    let stood = stood-so gs c.args.turns first c.args.step c.in_ok-end.end d p log c.in-Drained-Went.is-1
+        (c.in_ok-end.ensures.came c.args.step) in
     let same = same-turns gs c.args.turns first c.args.step d p log stood in
     c.requires.step ∙ ap closing_step (sym stood.1.settings)
 
@@ -104,7 +109,8 @@ make_closing_turns-requires-clause-stands g c =
     let d = c.make_script_turns.new.drive in
     let p = c.make_script_turns.new.port in
     let log = g.S.Scribe.trace c.make_script_turns.new.scribe in
-    let stood = stood-so gs c.args.turns first c.args.step c.in_ok-end.end d p log c.in-Drained-Went.is-1 (c.in_ok-end.ensures.came c.args.step) in
+    let stood = stood-so gs c.args.turns first c.args.step c.in_ok-end.end d p log c.in-Drained-Went.is-1
+        (c.in_ok-end.ensures.came c.args.step) in
     let same = same-turns gs c.args.turns first c.args.step d p log stood in
     some-and _ log (trace_in log) stood.0
     (subst (λ z. StandsAfter d.state.settings c.args.turns (first_plan z c.args.step) d p (trace_in log)) (sym same)
@@ -122,7 +128,8 @@ returns-in-Drained-Went-clause-made g c = λ script handed on seats.
     let q = c.make_closing_turns.new.port in
     let hooks = c.make_closing_turns.new.seats.hooks.items in
     let gone = c.make_closing_turns.new.seats.gone.items in
-    let stood = stood-so gs c.args.turns first c.args.step c.in_ok-end.end d p log c.in-Drained-Went.is-1 (c.in_ok-end.ensures.came c.args.step) in
+    let stood = stood-so gs c.args.turns first c.args.step c.in_ok-end.end d p log c.in-Drained-Went.is-1
+        (c.in_ok-end.ensures.came c.args.step) in
     let same = same-turns gs c.args.turns first c.args.step d p log stood in
     let tells = telling (λ h. (goal.Hook-dyn g (h.vtable, h.value)).heard h.value)
     (λ h. (goal.Hook-dyn g (h.vtable, h.value)).asked h.value) (λ h. (goal.Hook-dyn g (h.vtable, h.value)).planned h.value) in
