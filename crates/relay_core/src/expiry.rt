@@ -146,8 +146,8 @@ impl Relay {
 
     /// A turn begins. A reading of the clock becomes the time, cut at 2^62 and unless the time is greater. Answers the time. The timers
     /// that have come are taken, and all groups are refilled. Where no side has a timeout or a limit and there are no groups, nothing else
-    /// changes, and what an end may move doesn't grow with the time. Takes no memory; linear in the timers that are taken, in the links that
-    /// are watched and in the number of groups.
+    /// changes, and what an end may move doesn't grow with the time. Takes no memory; linear in the timers that are taken, in the watched
+    /// links and in the number of groups.
     ///
     /// Own.
     pub fn begin(&mut self, reading: u64) -> u64
