@@ -4,14 +4,12 @@ use Rattle.std.specs.Prelude.{sum_by}
 use Rattle.std.proofs.lemmas.List.Sums.{sum_by-cons}
 use Rattle.ev_types.specs.declared.side.SideId.{SideId}
 use Rattle.ev_types.specs.Trace.{Trace}
-use Rattle.relay_model.specs.Plain.{Plain, sides_from}
-use Rattle.relay_model.specs.Stages.{Stage}
-use Rattle.relay_model.specs.OpenLinks.{open_link_count, open_links_below}
-use Rattle.relay_model.specs.ClosingTurns.{buffered_at, all_buffered}
+use Rattle.relay_model.specs.Plain.{sides_from}
+use Rattle.relay_model.specs.OpenLinks.{open_links_below}
+use Rattle.relay_model.specs.ClosingTurns.{buffered_at}
 use Rattle.relay_state.specs.State.{State}
 use Rattle.relay_state.specs.Closing.{in_side, out_side}
-use Rattle.relay_state.specs.Counting.{buffered_below, is_open, open_below}
-use Rattle.relay_steps.specs.Meaning.{StandsFor}
+use Rattle.relay_state.specs.Counting.{is_open, open_below}
 use Rattle.relay_laws.specs.Underway.{underway_at, underway_below}
 use Rattle.relay_laws.proofs.UnderwayLemmas.{buffered_is_underway}
 use Rattle.relay_laws.proofs.LinkLemmas.{links-told}
@@ -57,6 +55,7 @@ open-same s (suc n) = let less = open-same s n in λ i. less i + (if is_open s n
 
 pub counts_are_as_told : CountsAreAsTold
 counts_are_as_told t x s k =
-    let same = links-told t x s k in
-    ((buffered_is_underway t x s k).all ∙ ap (λ n. underway_below t s n) (sym same) ∙ below-sum t s s.plain.opened,
-        open-same s s.plain.opened)
+    let same = links-told t x s k in (
+      (buffered_is_underway t x s k).all ∙ ap (λ n. underway_below t s n) (sym same) ∙ below-sum t s s.plain.opened,
+      open-same s s.plain.opened,
+    )

@@ -81,7 +81,7 @@ module _ (frees_done : FreesAreOfDone) (bounded : MostIsBounded) (few : ClosingT
   end = run.ends.1
 
   frees : FreesAreDone t
-  frees = frees_done g turns step t can (at Stage.Between ended, end) answered
+  frees = frees_done g turns step t can countable.none_behind (at Stage.Between ended, end) answered
 
   begun_is : begun turns t ≡ length turns + count_by is_turn run.closing
   begun_is =
@@ -130,7 +130,8 @@ module _ (frees_done : FreesAreOfDone) (bounded : MostIsBounded) (few : ClosingT
 
     begun-fewer : begun turns t - length turns < most
     begun-fewer =
-        let a = few g turns step run.scripted run.plain parts.parts ended can countable.names run.reached leads
+        let a = few g turns step run.scripted run.plain parts.parts ended can countable.names countable.none_behind run.reached
+        leads
         (subst (IsAnswered turns step) whole answered) (let k = run.all in omega (arith, k)) pairs in
         let b = parts.count in
         let c = begun_is in
@@ -143,7 +144,7 @@ module _ (frees_done : FreesAreOfDone) (bounded : MostIsBounded) (few : ClosingT
   pub links-done : AtEnd run.closing → AllLinksDone turns t
   links-done starts =
       none-left g t ended end frees turns none_open
-      (all-taken turns step t answered (let a = begun_is in omega (arith, a)) g can.links took
+      (all-taken turns step t answered (let a = begun_is in omega (arith, a)) g countable.links took
       (λ many. let a = opened-lives g t ended end frees accounted relayed.freed (omega (arith, many)) in omega (arith, a, none_open)))
     where
       none_open : open_link_count ended ≡ 0

@@ -22,7 +22,7 @@ use Rattle.relay_model.specs.Plain.{Plain, sides_from, is_live}
 use Rattle.relay_model.specs.Stages.{Stage, at}
 use Rattle.relay_model.specs.Turn.{Reaches, IsLegal}
 use Rattle.relay_model.specs.Onward.{Leads}
-use Rattle.relay_model.specs.Totals.{opened, connected_by}
+use Rattle.relay_model.specs.Totals.{connected_by}
 use Rattle.relay_model.specs.Told.{names, freed_by, is_freed, SideTold}
 use Rattle.relay_model.specs.Quiet.{starts_at}
 use Rattle.relay_model.specs.Causes.{HasCause}

@@ -172,9 +172,9 @@ few-where-done g turns closing_by t s parts after none done names reached way an
     omega (arith, few, size, held, read_more, within, all_more, before, behind, brought, waits, whole, told)
 
 pub closing_turns_are_few : FreesAreOfDone → ClosingTurnsAreFew
-closing_turns_are_few frees_are_of_done g turns closing_by t s parts after can names reached way answered all pairs =
+closing_turns_are_few frees_are_of_done g turns closing_by t s parts after can names ordered reached way answered all pairs =
     let u : Trace = flat_map (λ part. part) parts in
     let there : Reaches g (t ++ u) (at Stage.Between after) =
     reaches-on g t (at Stage.Between s) reached (t ++ u) (at Stage.Between after) way in
     few-where-done g turns closing_by t s parts after can.unhindered.hooks
-    (frees_are_of_done g turns closing_by (t ++ u) can (at Stage.Between after, there) answered) names reached way answered all pairs
+    (frees_are_of_done g turns closing_by (t ++ u) can ordered (at Stage.Between after, there) answered) names reached way answered all pairs

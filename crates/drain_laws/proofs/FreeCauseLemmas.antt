@@ -12,7 +12,7 @@ use Rattle.ev_types.specs.declared.side.SideId.{SideId}
 use Rattle.ev_types.specs.declared.why.Cause.{Cause}
 use Rattle.ev_types.specs.declared.why.Cause.TheVariants as cause
 use Rattle.ev_types.specs.declared.entry.Entry.TheVariants as entry
-use Rattle.ev_types.specs.ScriptTurn.{ScriptTurn}
+use Rattle.ev_types.specs.ScriptTurn.{ScriptTurn, lines_of}
 use Rattle.ev_types.specs.Sides.{peer}
 use Rattle.ev_types.specs.Trace.{Event, Trace}
 use Rattle.ev_types.specs.Usual.{no_timeouts}
@@ -39,7 +39,7 @@ use Rattle.relay_laws.specs.Links.{done_by, is_done}
 use Rattle.relay_laws.proofs.DoneOrder.{IsOutNext, Ended}
 use Rattle.relay_laws.proofs.DoneLemmas.{joined}
 use Rattle.relay_laws.proofs.SideLemmas.{Looks, all-hold}
-use Rattle.drain_laws.specs.CanDrain.{CanDrain}
+use Rattle.drain_laws.specs.CanDrain.{CanDrain, NoneBehind}
 use Rattle.drain_laws.specs.DrainBound.{FreesAreOfDone}
 use Rattle.drain_laws.proofs.UnfailedLemmas.{found, any-there, no-end-fails}
 use Rattle.drain_laws.proofs.GoodByteLemmas.{not-met}
@@ -107,7 +107,8 @@ untimely x dir.Write h le = let none = ap (λ z. z.write_ms) h in absurd (omega 
 not-freeing : (g : Settings) (x : Stage) (s : Plain) → Asleep g x s → (e : SideId) (f : Fire) (rs : List Reason) → x ≡ Freeing e f rs → ⊥
 not-freeing g x s h e f rs is = let k = subst (λ z. Asleep g z s) is h in absurd k.idle
 
-module _ (g : Settings) (turns : List ScriptTurn) (step : ℕ) (t : Trace) (can : CanDrain g turns) (legal : IsLegal g t)
+module _ (g : Settings) (turns : List ScriptTurn) (step : ℕ) (t : Trace) (can : CanDrain g turns)
+    (ordered : NoneBehind (lines_of turns)) (legal : IsLegal g t)
     (answered : IsAnswered turns step t) where
   -- among the first events, so many, each free is of a side that is done
   abbrev DoneBelow : ℕ → Type 0
@@ -185,7 +186,7 @@ module _ (g : Settings) (turns : List ScriptTurn) (step : ℕ) (t : Trace) (can 
   not-failed : (before rest : Trace) (e : SideId) → t ≡ before ++ rest → InThisTurn (failed_by e) before → ⊥
   not-failed before rest e is h =
       let there = any-later (failed_by e) t before rest is (any-there (failed_by e) before h.early h.since h.event h.is h.passes) in
-      let none = no-end-fails g turns step can t answered e in cc
+      let none = no-end-fails g turns step can ordered t answered e in cc
 
   below : (n : ℕ) → DoneBelow n
   below zero before after e why moved given bytes lt is = absurd (omega (arith, lt))
@@ -205,9 +206,9 @@ module _ (g : Settings) (turns : List ScriptTurn) (step : ℕ) (t : Trace) (can 
           absurd (untimely (side_at o.before e) o.dir (untimed g can.unhindered o.early (at Between o.before) o.reached e)
           o.overdue.has_timeout)
       go earlier (cause.Filter place) is h =
-          absurd (not-met g turns step can t answered before ((entry.Freed e (cause.Filter place) moved given, bytes) ∷ after) is
+          absurd (not-met g turns step can ordered t answered before ((entry.Freed e (cause.Filter place) moved given, bytes) ∷ after) is
           (at (Closing (CloseStep.Faulty e ∷ h.5.0)) h.0) e place h.5.1)
 
 pub frees_are_of_done : FreesAreOfDone
-frees_are_of_done g turns step t can legal answered before after e why moved given bytes is =
-    below g turns step t can legal answered (length before + 1) before after e why moved given bytes (omega arith) is
+frees_are_of_done g turns step t can ordered legal answered before after e why moved given bytes is =
+    below g turns step t can ordered legal answered (length before + 1) before after e why moved given bytes (omega arith) is

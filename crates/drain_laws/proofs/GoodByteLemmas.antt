@@ -7,7 +7,7 @@ use Rattle.std.proofs.lemmas.List.{append-nil}
 use Rattle.std.proofs.Math.Seq.{take-length}
 use Rattle.ev_types.specs.declared.side.SideId.{SideId}
 use Rattle.ev_types.specs.Sides.{peer}
-use Rattle.ev_types.specs.ScriptTurn.{ScriptTurn}
+use Rattle.ev_types.specs.ScriptTurn.{ScriptTurn, lines_of}
 use Rattle.ev_types.specs.Trace.{Event, Trace}
 use Rattle.filter_model.specs.Filter.{Filter, filter_of, met}
 use Rattle.filter_model.specs.FilterLaws.{IsPrefixOf, BadLaw, IsFilter}
@@ -28,7 +28,7 @@ use Rattle.relay_model.specs.Causes.{moved_to, ReadMeets, WriteMeets, MetFirst}
 use Rattle.relay_model.proofs.ConservedLemmas.{middle-first}
 use Rattle.relay_model.proofs.EndLemmas.{peer-peer}
 use Rattle.relay_model.proofs.FitsLemmas.{fits}
-use Rattle.drain_laws.specs.CanDrain.{CanDrain, brought_at}
+use Rattle.drain_laws.specs.CanDrain.{CanDrain, brought_at, NoneBehind}
 use Rattle.drain_laws.proofs.UnfailedLemmas.{read-begins, ended-read_all}
 
 -- One filter
@@ -83,16 +83,17 @@ module _ (r w : Filter) (law : IsFilter r) (read later brought : List ℕ) (ende
       ∙ ap (λ n. r.at_end (take n read)) done.1
       ∙ ap r.at_end (take-length read ∙ whole done.0)
 
-module _ (g : Settings) (turns : List ScriptTurn) (step : ℕ) (can : CanDrain g turns) (t : Trace) (answered : IsAnswered turns step t) where
+module _ (g : Settings) (turns : List ScriptTurn) (step : ℕ) (can : CanDrain g turns)
+    (ordered : NoneBehind (lines_of turns)) (t : Trace) (answered : IsAnswered turns step t) where
   -- In a state
 
   module _ (early more : Trace) (is : t ≡ early ++ more) (s : State) (reached : Reaches g early s) (e : SideId) (place : ℕ) where
     never-read : ReadMeets g early s.plain e place → ⊥
     never-read h =
-        let k = read-begins g turns step can t answered e early more is in
+        let k = read-begins g turns step can ordered t answered e early more is in
         never-met (filter_of (read_kind g e.side)) (every_filter (read_kind g e.side)).badness (bytes_read e early) (brought_at turns e)
         (flow_at s.plain e).used (has_ended e early) _ place (IsPrefixOf-append (bytes_read e early) k.0 (brought_at turns e) k.1)
-        (ended-read_all g turns step can t answered e early more is) (can.good e).read h
+        (ended-read_all g turns step can ordered t answered e early more is) (can.good e).read h
 
     never-written : WriteMeets g early s.plain e place → ⊥
     never-written h =
@@ -101,8 +102,8 @@ module _ (g : Settings) (turns : List ScriptTurn) (step : ℕ) (can : CanDrain g
         let w : Filter = filter_of (write_kind g (peer d).side) in
         let f : Flow = flow_at s.plain d in
         let law : IsFilter r = every_filter (read_kind g d.side) in
-        let k = read-begins g turns step can t answered d early more is in
-        let all = ended-read_all g turns step can t answered d early more is in
+        let k = read-begins g turns step can ordered t answered d early more is in
+        let all = ended-read_all g turns step can ordered t answered d early more is in
         let fit : Fits r w (bytes_read d early) (has_ended d early) f = fits g early s reached d in
         let good : (filter_of (write_kind g e.side)).bad_at_end (r.at_end (brought_at turns d)) ≡ None =
         subst (λ z. (filter_of (write_kind g z.side)).bad_at_end (r.at_end (brought_at turns d)) ≡ None) (peer-peer e) (can.good d).write in

@@ -1,5 +1,5 @@
 -- What a script brings in and what a run reads of it, summed over all sides of the script's links.
-use Rattle.std.proofs.Common.{◌≡◌, ℕ, ◌+◌, ◌-◌, ◌<◌, ◌≤◌, Bool, true, false, if◌then◌else◌, List, [], ◌∷◌, ◌++◌, length, take, drop}
+use Rattle.std.proofs.Common.{◌≡◌, ℕ, ◌+◌, ◌<◌, ◌≤◌, Bool, true, false, if◌then◌else◌, List, [], ◌∷◌, ◌++◌, length, take, drop}
 use Rattle.std.proofs.Common.{refl, sym, ◌∙◌, ap, arith, length-append, take-append-drop, take_all}
 use Rattle.std.specs.Prelude.{sum_by}
 use Rattle.std.specs.List.{flat_map}
@@ -23,7 +23,7 @@ use Rattle.relay_model.specs.Serve.{CarriesGot}
 use Rattle.relay_model.specs.Close.{CloseStep}
 use Rattle.relay_model.specs.Stages.{Stage, State}
 use Rattle.relay_model.specs.Turn.{Reaches}
-use Rattle.relay_model.specs.Totals.{is_opened, opened}
+use Rattle.relay_model.specs.Totals.{is_opened}
 use Rattle.relay_model.specs.Told.{names}
 use Rattle.relay_model.specs.Lines.{links_by, brings}
 use Rattle.relay_model.specs.Called.{NamesOpened}

@@ -1,6 +1,6 @@
 -- Where turns begin in a run: it stands there between two turns, in one plain state, and from one such place steps lead to the next. A
 -- trace is cut into its turns.
-use Rattle.std.proofs.Common.{◌≡◌, ℕ, ◌+◌, ◌≤◌, true, false, ◌||◌, List, [], ◌∷◌, ◌++◌, length, count_by, ◌⊎◌, inl, inr}
+use Rattle.std.proofs.Common.{◌≡◌, ℕ, ◌≤◌, true, false, ◌||◌, List, [], ◌∷◌, ◌++◌, length, count_by, ◌⊎◌, inl, inr}
 use Rattle.std.proofs.Common.{refl, sym, ◌∙◌, ap, subst, arith, length-append}
 use Rattle.std.specs.List.{flat_map, list_any, AllByRecursion}
 use Rattle.ev_types.specs.declared.entry.Entry.TheVariants as entry

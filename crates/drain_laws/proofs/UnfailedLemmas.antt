@@ -34,7 +34,7 @@ use Rattle.relay_model.proofs.PlayedLemmas.{answers_go_on}
 use Rattle.relay_model.proofs.PlayedReads.{reads_what_comes}
 use Rattle.relay_model.proofs.ToldLemmas.{none_of}
 use Rattle.relay_model.proofs.TraceLemmas.{bytes_read-append}
-use Rattle.drain_laws.specs.CanDrain.{CanDrain, brought_at}
+use Rattle.drain_laws.specs.CanDrain.{CanDrain, brought_at, NoneBehind}
 
 -- Lists
 
@@ -124,7 +124,7 @@ first-none o [] n h k = n k
 first-none o (true ∷ xs) n h k = cc
 first-none o (false ∷ xs) n h k = cc
 
-module _ (g : Settings) (turns : List ScriptTurn) (step : ℕ) (can : CanDrain g turns) where
+module _ (g : Settings) (turns : List ScriptTurn) (step : ℕ) (can : CanDrain g turns) (ordered : NoneBehind (lines_of turns)) where
   uncalled-poll : (t : Trace) (timeout : Option ℕ) (wants : List Want) →
       list_any is_call (events turns step t (PlayStep.Poll timeout wants)) ≡ false
   uncalled-poll t timeout wants =
@@ -273,7 +273,7 @@ module _ (g : Settings) (turns : List ScriptTurn) (step : ℕ) (can : CanDrain g
       bytes_read e t ≡ brought_at turns e
   read-all t answered e none over =
       let so_far = reads_what_comes turns step t e answered in
-      let later = can.none_behind (lines turns t) (rest_of t) e (lines-first t) over in
+      let later = ordered (lines turns t) (rest_of t) e (lines-first t) over in
       sym (append-nil (bytes_read e t)) ∙ ap (λ z. bytes_read e t ++ z) (sym none) ∙ so_far
       ∙ sym (append-nil (flat_map (brings e) (lines turns t))) ∙ ap (λ z. flat_map (brings e) (lines turns t) ++ z) (sym later)
       ∙ sym (brought-first t e)

@@ -32,17 +32,13 @@ pub record HasGoodBytes (g : Settings) (turns : List ScriptTurn) (e : SideId) : 
   pub read : (filter_of (read_kind g e.side)).bad_at_end (brought_at turns e) ≡ None
   pub write : (filter_of (write_kind g (peer e).side)).bad_at_end ((filter_of (read_kind g e.side)).at_end (brought_at turns e)) ≡ None
 
--- The settings hinder nothing, and as many links may be opened as the script has. Each of their ends ends; no read, no write, no poll
--- and no connection fails; no bytes are brought in at an end behind its end; no filter is bad on its bytes; and no turn comes later than
--- the last one.
+-- The settings hinder nothing. Each end of a link ends; no read, no write, no poll and no connection fails; no filter is bad on its bytes;
+-- and no turn comes later than the last one.
 pub record CanDrain (g : Settings) (turns : List ScriptTurn) : Type 0 where
   pub unhindered : IsUnhindered g
-  pub links : length (scripted_links turns) ≤ g.links
   pub drainable : IsDrainable turns
   pub no_write_fails : (e : SideId) → list_any (fails_writes e) (lines_of turns) ≡ false
   pub no_poll_fails : list_any fails_poll (lines_of turns) ≡ false
-  pub none_behind : (before after : List TurnLine) (e : SideId) → lines_of turns ≡ before ++ after → list_any (ends e) before ≡ true →
-      flat_map (brings e) after ≡ []
   pub good : (e : SideId) → HasGoodBytes g turns e
   pub last_is_greatest : All (λ turn. turn.0 ≤ last_moment turns) turns
 
@@ -51,7 +47,15 @@ pub record CanDrain (g : Settings) (turns : List ScriptTurn) : Type 0 where
 abbrev pub closing_turn_bound : List ScriptTurn → ℕ
 closing_turn_bound turns = 4 + 32 * total_brought turns + 72 * length (scripted_links turns)
 
--- Its lines name links that it opened before, and the clock can count so many closing turns.
+-- no bytes are brought in at an end behind its end
+abbrev pub NoneBehind : List TurnLine → Type 0
+NoneBehind lines = (before after : List TurnLine) (e : SideId) → lines ≡ before ++ after → list_any (ends e) before ≡ true →
+    flat_map (brings e) after ≡ []
+
+-- What every script is: its lines name links that it opened before, and bring in nothing behind an end; as many links may be opened as it
+-- has; and the clock can count so many closing turns.
 pub record IsCountable (g : Settings) (turns : List ScriptTurn) : Type 0 where
   pub names : NamesOpened 0 (lines_of turns)
+  pub none_behind : NoneBehind (lines_of turns)
+  pub links : length (scripted_links turns) ≤ g.links
   pub clock : last_moment turns + closing_step g * closing_turn_bound turns ≤ 2 ^ 62

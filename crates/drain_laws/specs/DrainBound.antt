@@ -26,12 +26,12 @@ use Rattle.relay_steps.specs.Meaning.{StandsFor}
 use Rattle.relay_laws.specs.Links.{link_state_in}
 use Rattle.relay_laws.specs.Relayed.{IsRelayed}
 use Rattle.relay_laws.specs.TurnEnds.{begins_turn}
-use Rattle.drain_laws.specs.CanDrain.{CanDrain, IsCountable, closing_turn_bound}
+use Rattle.drain_laws.specs.CanDrain.{CanDrain, IsCountable, NoneBehind, closing_turn_bound}
 
 -- In a run over a script that can be drained each free is of a side that is done.
 abbrev pub FreesAreOfDone : Type 0
-FreesAreOfDone = (g : Settings) (turns : List ScriptTurn) (closing_by : ℕ) (t : Trace) → CanDrain g turns → IsLegal g t →
-    IsAnswered turns closing_by t → FreesAreDone t
+FreesAreOfDone = (g : Settings) (turns : List ScriptTurn) (closing_by : ℕ) (t : Trace) → CanDrain g turns → NoneBehind (lines_of turns) →
+    IsLegal g t → IsAnswered turns closing_by t → FreesAreDone t
 
 -- What a relay counts in buffers, and what links it counts as open, is what these words say of the trace for which it stands.
 abbrev pub CountsAreAsTold : Type 0
@@ -56,7 +56,7 @@ MostIsBounded = (g : Settings) (turns : List ScriptTurn) (closing_by : ℕ) (t :
 -- 8 for each in buffers, 20 for each link that was open or waited to be, and 1.
 abbrev pub ClosingTurnsAreFew : Type 0
 ClosingTurnsAreFew = (g : Settings) (turns : List ScriptTurn) (closing_by : ℕ) (t : Trace) (s : Plain) (parts : List Trace)
-    (after : Plain) → CanDrain g turns → NamesOpened 0 (lines_of turns) → Reaches g t (at Stage.Between s) →
+    (after : Plain) → CanDrain g turns → NamesOpened 0 (lines_of turns) → NoneBehind (lines_of turns) → Reaches g t (at Stage.Between s) →
     Leads g t (at Stage.Between s) (t ++ flat_map (λ part. part) parts) (at Stage.Between after) →
     IsAnswered turns closing_by (t ++ flat_map (λ part. part) parts) → length turns ≤ begun turns t → PairsMoveOn parts →
     length parts ≤ 10 * unread_count turns t + 8 * all_buffered g t s + 20 * (open_link_count s + length (waiting turns t)) + 1

@@ -69,9 +69,10 @@ reading-within turns step n small =
     moments-within : (xs : List ScriptTurn) → All (λ (turn : ScriptTurn). turn.0 ≤ 2 ^ 40) xs →
         AreWithin (2 ^ 40) (map (λ (turn : ScriptTurn). turn.0) xs)
     moments-within [] h = tt
-    moments-within (x ∷ xs) h =
-        (All-head (λ (turn : ScriptTurn). turn.0 ≤ 2 ^ 40) x xs h,
-            moments-within xs (All-tail (λ (turn : ScriptTurn). turn.0 ≤ 2 ^ 40) x xs h))
+    moments-within (x ∷ xs) h = (
+      All-head (λ (turn : ScriptTurn). turn.0 ≤ 2 ^ 40) x xs h,
+      moments-within xs (All-tail (λ (turn : ScriptTurn). turn.0 ≤ 2 ^ 40) x xs h),
+    )
 
     index-within : (xs : List ℕ) (i other : ℕ) → AreWithin (2 ^ 40) xs → other ≤ 2 ^ 40 + step * (n + 1 - length turns) →
         slice_index_or xs i other ≤ 2 ^ 40 + step * (n + 1 - length turns)

@@ -155,7 +155,7 @@ module _ (script : ScriptValue) (how : Ending) (handed : HandedIn) (n : ℕ) (g 
   run-drained end d p t drained came asked =
       run-to script how handed n g first p came.closing d t ready on end
       (subst (λ m. CameTo g (m + came.closing) end (closing_plan first.turns (closing_step g) came.closing) d p t)
-          (sym ready.many) came.came)
+      (sym ready.many) came.came)
       (subst (λ h. EndsAs h first.turns g (answer_of end) came.closing t) (sym drained) (inl came.drains)) asked
 
 -- why a run was refused is why its text is, or memory ran out for that

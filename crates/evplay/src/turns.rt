@@ -76,8 +76,10 @@ fn make_script_turns<S: Scribe>(
     ensures seated { result ≡ Ok RunEnd.Went → AreSeated drive.new.state seats.new.hooks.items seats.new.gone.items }
     ensures told { (plan : SideId → List PlanLine) → HavePlans (telling (λ h. heard (h.vtable, h.value)) (λ h. asked (h.vtable, h.value))
         (λ h. planned (h.vtable, h.value))) plan seats.old.hooks.items →
-        IfOk result (λ end. IsSomeAnd (S.trace scribe.new) (ToldTo (telling (λ h. heard (h.vtable, h.value)) (λ h. asked (h.vtable,
-            h.value))
+        IfOk result (λ end. IsSomeAnd (S.trace scribe.new) (ToldTo (telling (λ h. heard (h.vtable, h.value)) (λ h. asked (
+          h.vtable,
+          h.value,
+        ))
         (λ h. planned (h.vtable, h.value))) end plan seats.new.hooks.items seats.new.gone.items)) }
     ensures only_memory { IfErr result (λ fault. fault ≡ Memory) }
 {

@@ -19,7 +19,7 @@ longest-append n (x ∷ xs) ys = longest-append (max n x) xs ys
 -- the tick of a limit, where one is set
 longest-option : (n : ℕ) (o : Option LimitCfg) →
     longest n (option_to_list (option_map (λ (cfg : LimitCfg). cfg.tick_ms) o))
-        ≡ max n (option_map_or (λ (cfg : LimitCfg). cfg.tick_ms) o 0)
+    ≡ max n (option_map_or (λ (cfg : LimitCfg). cfg.tick_ms) o 0)
 longest-option n None = omega arith
 longest-option n (Some cfg) = refl
 
@@ -57,7 +57,7 @@ returns-else-longest-eq0 c = λ hooks.
     let ins = c.args.settings.now.in_rate in
     let outs = c.args.settings.now.out_rate in
     let sides = c.longer_tick-of_sides.ensures ∙ ap (λ m. max m (option_map_or (λ
-        (cfg : LimitCfg). cfg.tick_ms) outs 0)) c.longer_tick.ensures in
+    (cfg : LimitCfg). cfg.tick_ms) outs 0)) c.longer_tick.ensures in
     let groups = c.deref.ensures.value in
     let whole : n ≡ longest (max (max 0 (option_map_or (λ (cfg : LimitCfg). cfg.tick_ms) ins 0))
     (option_map_or (λ (cfg : LimitCfg). cfg.tick_ms) outs 0)) (map (λ (x : GroupSet). x.cfg.tick_ms) c.args.given.now.groups.items) =

@@ -76,7 +76,7 @@ loop-made-preserved g c =
     let did : Turns d.state w.added c.turn.new.self.state =
     subst (λ x. EndsTurn x d.state w.added c.turn.new.self.state) c.in-Ok-Went.field-0-is w.does in
     let next = stands-more gs (length turns + made) (closing_plan turns step
-        (made + 1)) d c.turn.new.self q c.turn.new.port t log log' _ _ _
+    (made + 1)) d c.turn.new.self q c.turn.new.port t log log' _ _ _
     stands c.in-Ok-Went.field-0 c.in-Ok-Went.field-0-is calm w in
     let counted : length turns + made + 1 ≡ length turns + (made + 1) = omega arith in
     let more = called-for gs turns step made d p t small names inv.stands c.most_closing_turns-most.result _ inv.most c.loop-made-test.true

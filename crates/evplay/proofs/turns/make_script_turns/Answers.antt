@@ -96,7 +96,7 @@ returns-in-Ok-Stopped-clause-came g c = λ step.
     let w = c.in-Ok-Stopped.ensures.went before.calm (fresh c.loop-turn.turn c.loop-turn.drive t few before.within before.means) in
     let came = stopped-more gs c.loop-turn.turn (first_plan c.args.port.now.turns step) c.loop-turn.drive c.turn.new.self c.loop-turn.port
     c.turn.new.port t log log' _ _ _ before c.in-Ok-Stopped.field-0 c.in-Ok-Stopped.link
-        (c.loop-turn.turn + 1) c.in-Ok-Stopped.field-0-is w in
+    (c.loop-turn.turn + 1) c.in-Ok-Stopped.field-0-is w in
     let begins = end-begins c.in-Ok-Stopped.field-0 c.loop-turn.drive.state c.turn.new.self.state w.added w.does in
     let counted : count_by is_turn (t ++ w.added) ≡ c.loop-turn.turn + 1 = omega
     (arith, count-append t w.added, begins.once, before.turns) in

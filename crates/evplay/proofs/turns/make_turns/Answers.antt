@@ -50,7 +50,7 @@ make_closing_turns-requires-clause-small g c =
     let p = c.make_script_turns.new.port in
     let log = g.S.Scribe.trace c.make_script_turns.new.scribe in
     let stood = stood-so gs c.args.turns first c.args.step c.in_ok-end.end d p log c.in-Drained-Went.is-1
-        (c.in_ok-end.ensures.came c.args.step) in
+    (c.in_ok-end.ensures.came c.args.step) in
     let same = same-turns gs c.args.turns first c.args.step d p log stood in
     subst AreSmall (sym same) c.requires.may_run.small
 
@@ -62,7 +62,7 @@ make_closing_turns-requires-clause-names g c =
     let p = c.make_script_turns.new.port in
     let log = g.S.Scribe.trace c.make_script_turns.new.scribe in
     let stood = stood-so gs c.args.turns first c.args.step c.in_ok-end.end d p log c.in-Drained-Went.is-1
-        (c.in_ok-end.ensures.came c.args.step) in
+    (c.in_ok-end.ensures.came c.args.step) in
     let same = same-turns gs c.args.turns first c.args.step d p log stood in
     subst (λ z. NamesOpened 0 (lines_of z)) (sym same) c.requires.may_run.names
 
@@ -74,7 +74,7 @@ make_closing_turns-requires-clause-links g c =
     let p = c.make_script_turns.new.port in
     let log = g.S.Scribe.trace c.make_script_turns.new.scribe in
     let stood = stood-so gs c.args.turns first c.args.step c.in_ok-end.end d p log c.in-Drained-Went.is-1
-        (c.in_ok-end.ensures.came c.args.step) in
+    (c.in_ok-end.ensures.came c.args.step) in
     let same = same-turns gs c.args.turns first c.args.step d p log stood in
     ap (λ (z : Settings). z.links) stood.1.settings ∙ c.requires.may_run.links
 
@@ -86,7 +86,7 @@ make_closing_turns-requires-clause-many g c =
     let p = c.make_script_turns.new.port in
     let log = g.S.Scribe.trace c.make_script_turns.new.scribe in
     let stood = stood-so gs c.args.turns first c.args.step c.in_ok-end.end d p log c.in-Drained-Went.is-1
-        (c.in_ok-end.ensures.came c.args.step) in
+    (c.in_ok-end.ensures.came c.args.step) in
     let same = same-turns gs c.args.turns first c.args.step d p log stood in
     c.requires.may_run.many ∙ ap length (sym same)
 
@@ -98,7 +98,7 @@ make_closing_turns-requires-clause-step g c =
     let p = c.make_script_turns.new.port in
     let log = g.S.Scribe.trace c.make_script_turns.new.scribe in
     let stood = stood-so gs c.args.turns first c.args.step c.in_ok-end.end d p log c.in-Drained-Went.is-1
-        (c.in_ok-end.ensures.came c.args.step) in
+    (c.in_ok-end.ensures.came c.args.step) in
     let same = same-turns gs c.args.turns first c.args.step d p log stood in
     c.requires.step ∙ ap closing_step (sym stood.1.settings)
 
@@ -110,7 +110,7 @@ make_closing_turns-requires-clause-stands g c =
     let p = c.make_script_turns.new.port in
     let log = g.S.Scribe.trace c.make_script_turns.new.scribe in
     let stood = stood-so gs c.args.turns first c.args.step c.in_ok-end.end d p log c.in-Drained-Went.is-1
-        (c.in_ok-end.ensures.came c.args.step) in
+    (c.in_ok-end.ensures.came c.args.step) in
     let same = same-turns gs c.args.turns first c.args.step d p log stood in
     some-and _ log (trace_in log) stood.0
     (subst (λ z. StandsAfter d.state.settings c.args.turns (first_plan z c.args.step) d p (trace_in log)) (sym same)
@@ -129,7 +129,7 @@ returns-in-Drained-Went-clause-made g c = λ script handed on seats.
     let hooks = c.make_closing_turns.new.seats.hooks.items in
     let gone = c.make_closing_turns.new.seats.gone.items in
     let stood = stood-so gs c.args.turns first c.args.step c.in_ok-end.end d p log c.in-Drained-Went.is-1
-        (c.in_ok-end.ensures.came c.args.step) in
+    (c.in_ok-end.ensures.came c.args.step) in
     let same = same-turns gs c.args.turns first c.args.step d p log stood in
     let tells = telling (λ h. (goal.Hook-dyn g (h.vtable, h.value)).heard h.value)
     (λ h. (goal.Hook-dyn g (h.vtable, h.value)).asked h.value) (λ h. (goal.Hook-dyn g (h.vtable, h.value)).planned h.value) in
