@@ -14,7 +14,7 @@ use Rattle.relay_model.specs.Settings.{GroupSet, Settings}
 use Rattle.relay_model.specs.Called.{NamesOpened}
 use Rattle.relay_model.specs.ClosingTurns.{brought_count}
 use Rattle.relay_model.specs.Script.{closing_step, greatest, tick_lengths}
-use Rattle.drain_laws.specs.CanDrain.{closing_turn_bound, last_moment, IsCountable}
+use Rattle.drain_laws.specs.CanDrain.{closing_turn_bound, last_moment, IsCountable, NoneBehind}
 use Rattle.evplay.specs.Run.{AreSmall}
 
 -- each number of a list is at most this one
@@ -97,8 +97,15 @@ bound-within turns small =
 pub product-within : (a b m n : ℕ) → a ≤ m → b ≤ n → a * b ≤ m * n
 product-within a b m n h k = grind (arith, h, k)
 
-pub countable : (g : Settings) (turns : List ScriptTurn) → AreSmall turns → NamesOpened 0 (lines_of turns) → IsCountable g turns
-countable g turns small names =
+pub countable : (g : Settings) (turns : List ScriptTurn) → AreSmall turns → NamesOpened 0 (lines_of turns) →
+    NoneBehind (lines_of turns) → g.links ≡ 256 → IsCountable g turns
+countable g turns small names behind many =
     let all : closing_step g * closing_turn_bound turns ≤ 2 ^ 20 * 2 ^ 29 =
     product-within (closing_step g) (closing_turn_bound turns) (2 ^ 20) (2 ^ 29) (step-within g) (bound-within turns small) in
-    record { names = names; clock = omega (arith, all, moment-within turns small) }
+    let links = small.links in
+    record {
+      names = names;
+      none_behind = behind;
+      links = omega (arith, links, many);
+      clock = omega (arith, all, moment-within turns small);
+    }

@@ -18,7 +18,7 @@ use Rattle.evplay.specs.HandedIn.{HandedIn, handed_in, lines_at, AddsSlot, HasSe
 
 -- By number and by side
 
-same-number : (x e : SideId) → (number x == number e) ≡ same_end x e
+pub same-number : (x e : SideId) → (number x == number e) ≡ same_end x e
 same-number x e = go (same_end x e) refl
   where
     apart : (b : Bool) → (number x == number e) ≡ b → number x ≢ number e → b ≡ false

@@ -1,5 +1,5 @@
 -- A trace for which a relay stands, and which is played from a script, is that of a run of that script.
-use Rattle.std.proofs.Common.{◌≡◌, ℕ, true, subst, arith}
+use Rattle.std.proofs.Common.{◌≡◌, ℕ, true, subst, arith, sym, ap, ◌∙◌}
 use Rattle.ev_types.specs.ScriptTurn.{lines_of}
 use Rattle.ev_types.specs.Trace.{Trace}
 use Rattle.ev_types.specs.AskNumbers.{AsksFit}
@@ -23,6 +23,7 @@ use Rattle.relay_laws.specs.Relayed.{StoodBetween, IsRelayed}
 use Rattle.relay_laws.specs.Spelling.{TimeoutsFit, BringsFit}
 use Rattle.relay_laws.proofs.RelayedLemmas.{relayed-of}
 use Rattle.relay_laws.proofs.SpellingLemmas.{reads_fit_as_scripted, stood_is_spellable}
+use Rattle.drain_laws.specs.CanDrain.{NoneBehind}
 use Rattle.evplay.specs.HandedIn.{HandedIn}
 use Rattle.evplay.specs.Headline.{EndsAs, IsRun, settings_on, script_run}
 use Rattle.evplay.specs.Run.{AreSmall}
@@ -32,12 +33,12 @@ use Rattle.evplay.proofs.DrainedLemmas.{drained-where}
 -- fits, and what was asked.
 pub run-of : (script : ScriptValue) (how : Ending) (handed : HandedIn) (answer : TurnAnswer) (t : Trace) (x : Stage) (s : State)
     (closing : ℕ) → s.settings ≡ settings_on script handed → s.settings.links ≡ 256 → TimeoutsFit s.settings → BringsFit script.turns →
-    AreSmall script.turns → NamesOpened 0 (lines_of script.turns) →
+    AreSmall script.turns → NamesOpened 0 (lines_of script.turns) → NoneBehind (lines_of script.turns) →
     (k : StandsFor t x s) → LeftAt s.settings answer x s.plain → Plays (script_run script) closing answer t →
     EndsAs how script.turns (settings_on script handed) answer closing t → AsksFit t →
     (handed.tell ≡ true → AskPlanned (plan_of (script_run script)) answer t) → AtTurnEnds (StoodBetween (settings_on script handed)) t →
     IsRun script how handed answer t (lines_below s s.plain.opened)
-run-of script how handed answer t x s closing is links timeouts fit small names k left played ends_so asks asked ends =
+run-of script how handed answer t x s closing is links timeouts fit small names behind k left played ends_so asks asked ends =
     let g : Settings = settings_on script handed in
     let reached : Reaches g t (at x s.plain) = subst (λ z. Reaches z t (at x s.plain)) is k.reached in
     let left_at : LeftAt g answer x s.plain = subst (λ z. LeftAt z answer x s.plain) is left in
@@ -49,7 +50,8 @@ run-of script how handed answer t x s closing is links timeouts fit small names 
       closing = closing;
       played = played;
       ends = ends_so;
-      drained = drained-where how script.turns g answer t (lines_below s s.plain.opened) closing small names relayed played.answered
+      drained = drained-where how script.turns g answer t (lines_below s s.plain.opened) closing small names behind
+          (sym (ap (λ (z : Settings). z.links) is) ∙ links) relayed played.answered
           played.took_all played.turns ends_so;
       polls = polls_fail_as_scripted g answer script.turns (closing_step g) t played.answered legal;
       asked = asked;

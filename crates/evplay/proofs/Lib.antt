@@ -9,6 +9,7 @@ pub mod RunLemmas
 pub mod ClosingLemmas
 pub mod FaultLemmas
 pub mod ScriptLemmas
+pub mod BehindLemmas
 pub mod BroughtLemmas
 pub mod SizeLemmas
 pub mod TimeoutLemmas

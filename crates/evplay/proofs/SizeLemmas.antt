@@ -31,7 +31,9 @@ use Rattle.script_text.specs.Spelled.{no_line, script_of}
 use Rattle.script_text.specs.ValueGrammar.{why_kind_of}
 use Rattle.script_text.proofs.LawLemmas.{script_of-read, decimal-number_within}
 use Rattle.relay_model.specs.Lines.{links_by}
+use Rattle.drain_laws.specs.CanDrain.{NoneBehind}
 use Rattle.evplay.specs.Run.{AreSmall}
+use Rattle.evplay.proofs.BehindLemmas.{behind-more, behind-none}
 use Rattle.evplay.proofs.BroughtLemmas.{some-map, some-then, some-if, lines_of-turn, lines_of-with_line}
 use Rattle.evplay.proofs.ScriptLemmas.{few-turns, some-is, none-some, keeps-lines}
 
@@ -89,10 +91,11 @@ said-soon (first ∷ more) =
 abbrev IsEarly : ScriptTurn → Type 0
 IsEarly turn = turn.0 ≤ 2 ^ 40
 
--- the moments so far are at most 2^40, and the links at most 256
+-- the moments so far are at most 2^40, the links at most 256, and nothing is brought in behind an end
 record IsSmallSoFar (turns : List ScriptTurn) : Type 0 where
   moments : All IsEarly turns
   links : opened (lines_of turns) ≤ 256
+  behind : NoneBehind (lines_of turns)
 
 moments-with_line : (turns : List ScriptTurn) (x : TurnLine) → All IsEarly turns →
     All IsEarly (with_line turns x)
@@ -144,6 +147,7 @@ extended-small s new (line.At ms) soon small h = at_case (nat_lt (length s.turns
       moments = All-append IsEarly s.turns ((ms, []) ∷ []) small.moments
           (All-cons IsEarly (ms, []) [] soon (All-nil IsEarly));
       links = subst (λ z. opened z ≤ 256) (sym (lines_of-turn s.turns ms)) small.links;
+      behind = subst NoneBehind (sym (lines_of-turn s.turns ms)) small.behind;
     }
 
     at_case : (b : Bool) → (if b then Some (record s { turns = s.turns ++ (ms, []) ∷ [] }) else None) ≡ Some new →
@@ -163,6 +167,7 @@ extended-small s new (line.Within x) soon small h =
         subst (λ (z : SoFar). IsSmallSoFar z.turns) (some-is _ new k) (record {
           moments = moments-with_line s.turns x small.moments;
           links = subst (λ z. opened z ≤ 256) (sym longer) (subst (λ n. n ≤ 256) (sym (opened-push (lines_of s.turns) x)) few);
+          behind = subst NoneBehind (sym longer) (behind-more (lines_of s.turns) x small.behind both.1);
         })
     within_case false tests k = none-some new k
 
@@ -189,14 +194,22 @@ opened-same (x ∷ xs) =
     by_line (turn.Spur side) = refl
     by_line turn.PollFail = refl
 
+small-so : (text : List ℕ) (script : ScriptValue) → script_of text ≡ Ok script → IsSmallSoFar script.turns
+small-so text script h =
+    let read = script_of-read text script h in
+    let start : IsSmallSoFar no_line.turns = record { moments = All-nil IsEarly; links = omega arith; behind = behind-none } in
+    subst (λ (z : ScriptValue). IsSmallSoFar z.turns) read.is
+    (keeps-lines (λ s. IsSmallSoFar s.turns) said-small no_line read.so_far 0 (lines text) start read.read)
+
+-- what a text spells brings in nothing behind an end
+pub none-behind : (text : List ℕ) (script : ScriptValue) → script_of text ≡ Ok script → NoneBehind (lines_of script.turns)
+none-behind text script h = (small-so text script h).behind
+
 -- a text of at most 2^24 bytes spells a small script
 pub are-small : (text : List ℕ) (script : ScriptValue) → script_of text ≡ Ok script → length text ≤ 2 ^ 24 →
     2 * all_brought (lines_of script.turns) ≤ length text → AreSmall script.turns
 are-small text script h most half =
-    let read = script_of-read text script h in
-    let start : IsSmallSoFar no_line.turns = record { moments = All-nil IsEarly; links = omega arith } in
-    let small : IsSmallSoFar script.turns = subst (λ (z : ScriptValue). IsSmallSoFar z.turns) read.is
-    (keeps-lines (λ s. IsSmallSoFar s.turns) said-small no_line read.so_far 0 (lines text) start read.read) in
+    let small = small-so text script h in
     let links = small.links in
     let same = opened-same (lines_of script.turns) in
     record {

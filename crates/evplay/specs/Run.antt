@@ -13,6 +13,7 @@ use Rattle.relay_drive.specs.declared.fault.DriveFault.TheVariants as fault
 use Rattle.relay_laws.specs.Spelling.{BringsFit, TimeoutsFit}
 use Rattle.relay_model.specs.Called.{NamesOpened}
 use Rattle.relay_model.specs.ClosingTurns.{scripted_links}
+use Rattle.drain_laws.specs.CanDrain.{NoneBehind}
 use Rattle.script_port.specs.ScriptPlan.{first_plan}
 use Rattle.script_port.specs.ScriptPort.{new_port}
 use Rattle.script_port.specs.ScriptState.{PortState}
@@ -63,12 +64,13 @@ pub record AreSmall (turns : List ScriptTurn) : Type 0 where
   pub moments : All (λ turn. turn.0 ≤ 2 ^ 40) turns
 
 -- A run of so many turns with these settings may begin over a port: it plays a script of so many, none of which it has begun; the script
--- names only links that it opens, and what it brings in, its moments and the timeouts can be counted. There are few hooks, and the groups
--- are in order.
+-- names only links that it opens and brings in nothing behind an end; what it brings in, its moments and the timeouts can be counted. There
+-- are few hooks, and the groups are in order.
 pub record MayRun (turns : ℕ) (g : Settings) (p : PortState) : Type 0 where
   pub many : turns ≡ length p.turns
   pub small : AreSmall p.turns
   pub names : NamesOpened 0 (lines_of p.turns)
+  pub ordered : NoneBehind (lines_of p.turns)
   pub brings : BringsFit p.turns
   pub links : g.links ≡ 256
   pub hooks : length g.hooks ≤ 64

@@ -12,6 +12,7 @@ ghost use Rattle.relay_laws.specs.Report.{lines_below};
 ghost use Rattle.relay_laws.specs.Spelling.{BringsFit, TimeoutsFit};
 ghost use Rattle.script_text.specs.GroupsAreSet.{GroupsAreSet};
 ghost use Rattle.script_text.specs.Script.{ScriptValue};
+ghost use Rattle.drain_laws.specs.CanDrain.{NoneBehind};
 ghost use Rattle.program_end.specs.Planned.{IsFresh};
 ghost use Rattle.evplay.specs.HandedIn.{HandedIn, handed_in, HasSeats};
 ghost use Rattle.evplay.specs.Headline.{settings_of, settings_on, IsRun};
@@ -68,6 +69,7 @@ pub fn run(
 ) -> Result<(Vec<u8>, RunEnd), DriveFault>
     requires small { AreSmall script.turns }
     requires names { NamesOpened 0 (lines_of script.turns) }
+    requires ordered { NoneBehind (lines_of script.turns) }
     requires brings { BringsFit script.turns }
     requires links { script.settings.links ≡ 256 }
     requires timeouts { TimeoutsFit (settings_of script) }

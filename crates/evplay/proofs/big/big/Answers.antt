@@ -9,6 +9,7 @@ use Rattle.relay_drive.proofs.NewStands.{groups-given}
 use Rattle.big_script.specs.BigScript.{big_script_of}
 use Rattle.big_script.proofs.BigLemmas.{big_scripts_are_big, big_groups_are_set}
 use Rattle.evplay.specs.Run.{MayRun}
+use Rattle.evplay.proofs.BigBehind.{big-behind}
 use Rattle.evplay.proofs.BigLemmas.{big-brings, big-small, big-timeouts}
 use Rattle.evplay.proofs.GivenLemmas.{Took, took-fit, timed-as, settings-seen, turns-seen, without_groups}
 use Rattle.evplay.proofs.big.big.Goals as goal
@@ -34,6 +35,7 @@ big_over-requires-clause-may_run c =
       many = omega (arith, c.len-turns.ensures, now.turns.ok.0, turns-seen now script left);
       small = big-small n c.requires.few;
       names = (big_scripts_are_big n).names;
+      ordered = big-behind n;
       brings = big-brings n c.requires.few;
       links = ap (λ (z : Settings). z.links) set;
       hooks = omega arith;

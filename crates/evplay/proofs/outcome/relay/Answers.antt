@@ -2,7 +2,7 @@ use Rattle.script_port.proofs.ScriptSpelledLemmas.{spelled_names_opened}
 use Rattle.evplay.proofs.BroughtLemmas.{brings-fit}
 use Rattle.evplay.proofs.PlanLemmas.{plans-low}
 use Rattle.evplay.proofs.ScriptLemmas.{links-usual}
-use Rattle.evplay.proofs.SizeLemmas.{are-small}
+use Rattle.evplay.proofs.SizeLemmas.{are-small, none-behind}
 use Rattle.evplay.proofs.TimeoutLemmas.{timeouts-fit}
 use Rattle.evplay.proofs.outcome.relay.Goals as goal
 
@@ -23,3 +23,6 @@ run-requires-clause-timeouts g c = timeouts-fit c.args.text.now c.in-Ok.script c
 
 pub run-requires-clause-planned : goal.run-requires-clause-planned
 run-requires-clause-planned g c = plans-low c.args.text.now c.in-Ok.script c.in-Ok.ensures.script
+
+pub run-requires-clause-ordered : goal.run-requires-clause-ordered
+run-requires-clause-ordered g c = none-behind c.args.text.now c.in-Ok.script c.in-Ok.ensures.script

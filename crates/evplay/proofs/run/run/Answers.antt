@@ -35,6 +35,7 @@ run_over-requires-clause-may_run g c =
       many = omega (arith, c.len-turns.ensures, now.turns.ok.0, turns-seen now script left);
       small = c.requires.small;
       names = c.requires.names;
+      ordered = c.requires.ordered;
       brings = c.requires.brings;
       links = ap (λ (z : Settings). z.links) set ∙ c.requires.links;
       hooks = omega (arith, few, sides);
