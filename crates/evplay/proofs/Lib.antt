@@ -17,4 +17,5 @@ pub mod PlanLemmas
 pub mod HandedLemmas
 pub mod GivenLemmas
 pub mod BigLemmas
+pub mod BigBehind
 pub mod ModeLemmas
