@@ -177,4 +177,5 @@ closing_turns_are_few frees_are_of_done g turns closing_by t s parts after can n
     let there : Reaches g (t ++ u) (at Stage.Between after) =
     reaches-on g t (at Stage.Between s) reached (t ++ u) (at Stage.Between after) way in
     few-where-done g turns closing_by t s parts after can.unhindered.hooks
-    (frees_are_of_done g turns closing_by (t ++ u) can ordered (at Stage.Between after, there) answered) names reached way answered all pairs
+    (frees_are_of_done g turns closing_by (t ++ u) can ordered (at Stage.Between after, there) answered) names reached way
+    answered all pairs

@@ -1,5 +1,5 @@
 -- A script that a text spells brings in nothing behind the end of an end.
-use Rattle.std.proofs.Common.{◌≡◌, ◌⊎◌, inl, inr, ◌++◌, ◌∷◌, ◌==◌, ◌&&◌, ◌||◌, not, ℕ, Bool, true, false, List, [], refl, sym, ap, ◌∙◌, subst}
+use Rattle.std.proofs.Common.{◌≡◌, ◌⊎◌, inl, inr, ◌++◌, ◌∷◌, ◌||◌, not, Bool, true, false, List, [], refl, sym, ap, ◌∙◌}
 use Rattle.std.proofs.Common.{if◌then◌else◌}
 use Rattle.std.specs.List.{flat_map, list_any}
 use Rattle.std.proofs.lemmas.Bool.{and_parts, eq-eqb, eqb-true}
@@ -83,7 +83,7 @@ brings-nothing lines before m (turn.Pending side bytes) e may cut ended = go (sa
     go true is =
         let open_still = (and_parts (is_known side lines) (not (is_ended (number side) lines)) may).1 in
         let there = any-front (is_end_of (number side)) before m
-            (any-weaker (ends e) (is_end_of (number side)) (ends-number side e is) before ended) in
+        (any-weaker (ends e) (is_end_of (number side)) (ends-number side e is) before ended) in
         let here : is_ended (number side) lines ≡ true = ap (is_ended (number side)) cut ∙ there in
         absurd (cc)
 brings-nothing lines before m (turn.NewLink wait) e may cut ended = refl

@@ -13,7 +13,7 @@ use Rattle.relay_model.specs.Lines.{fails_poll}
 use Rattle.relay_model.specs.Scripted.{begun, poll_fails}
 use Rattle.relay_laws.specs.Spelling.{BringsFit, TimeoutsFit}
 use Rattle.program_end.proofs.StopLemmas.{never_stopped}
-use Rattle.big_script.specs.BigScript.{big_script_of, idle_turns, lines_from, lines_with}
+use Rattle.big_script.specs.BigScript.{big_script_of, idle_turns, lines_from}
 use Rattle.big_script.specs.Generated.{number_after}
 use Rattle.big_script.proofs.BigLemmas.{big_scripts_are_big}
 use Rattle.script_port.specs.ScriptState.{PortState}

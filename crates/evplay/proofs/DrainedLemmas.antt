@@ -1,5 +1,5 @@
 -- A run with closing turns brings every link to its end, where the script and its settings let it.
-use Rattle.std.proofs.Common.{◌⊎◌, inl, inr, ◌+◌, ℕ, length, [], List, refl}
+use Rattle.std.proofs.Common.{◌≡◌, ◌⊎◌, inl, inr, ◌+◌, ℕ, length, [], List, refl}
 use Rattle.ev_types.specs.ScriptTurn.{ScriptTurn, lines_of}
 use Rattle.ev_types.specs.Trace.{Trace}
 use Rattle.ev_types.specs.declared.status.LinkCount.{LinkCount}
@@ -22,7 +22,8 @@ use Rattle.evplay.specs.Run.{AreSmall}
 use Rattle.evplay.proofs.CountableLemmas.{countable}
 
 drained-so : (turns : List ScriptTurn) (g : Settings) (t : Trace) (links : List LinkCount) (closing : ℕ) → AreSmall turns →
-    NamesOpened 0 (lines_of turns) → NoneBehind (lines_of turns) → g.links ≡ 256 → IsRelayed g TurnAnswer.Went t links → IsAnswered turns (closing_step g) t →
+    NamesOpened 0 (lines_of turns) → NoneBehind (lines_of turns) → g.links ≡ 256 → IsRelayed g TurnAnswer.Went t links →
+    IsAnswered turns (closing_step g) t →
     AlwaysTookAll turns g.links [] t → EndsPlayed turns g.links (length turns + closing) TurnAnswer.Went t → CanDrain g turns →
     DrainsByTurns turns g TurnAnswer.Went t ⊎ EndedEarly turns TurnAnswer.Went t → IsDrained turns g t
 drained-so turns g t links closing small names behind many relayed answered took played can (inl drains) = record {
@@ -38,16 +39,11 @@ pub drained-where : (how : Ending) (turns : List ScriptTurn) (g : Settings) (ans
     IsRelayed g answer t links → IsAnswered turns (closing_step g) t →
     AlwaysTookAll turns g.links [] t → EndsPlayed turns g.links (length turns + closing) answer t →
     EndsAs how turns g answer closing t → DrainsWhereItCan how turns g answer t
-drained-where ending.LastTurn turns g answer t links closing small names behind many relayed answered took played ends is went can = absurd (cc is)
-drained-where ending.Drained turns g TurnAnswer.Went t links closing small names behind many relayed answered took played ends is went can =
+drained-where ending.LastTurn turns g answer t links _ _ _ _ _ _ _ _ _ _ is _ _ = absurd (cc is)
+drained-where ending.Drained turns g TurnAnswer.Went t links closing small names behind many relayed answered took played ends _ _ can =
     drained-so turns g t links closing small names behind many relayed answered took played can ends
-drained-where ending.Drained turns g TurnAnswer.PollFault t links closing small names behind many relayed answered took played ends is went can =
-    absurd (cc went)
-drained-where ending.Drained turns g (TurnAnswer.Stopped link) t links closing small names behind many relayed answered took played ends is went can =
-    absurd (cc went)
-drained-where ending.Drained turns g TurnAnswer.OpenFault t links closing small names behind many relayed answered took played ends is went can =
-    absurd (cc went)
-drained-where ending.Drained turns g TurnAnswer.Spent t links closing small names behind many relayed answered took played ends is went can =
-    absurd (cc went)
-drained-where ending.Drained turns g TurnAnswer.Memory t links closing small names behind many relayed answered took played ends is went can =
-    absurd (cc went)
+drained-where ending.Drained turns g TurnAnswer.PollFault t links _ _ _ _ _ _ _ _ _ _ _ went _ = absurd (cc went)
+drained-where ending.Drained turns g (TurnAnswer.Stopped link) t links _ _ _ _ _ _ _ _ _ _ _ went _ = absurd (cc went)
+drained-where ending.Drained turns g TurnAnswer.OpenFault t links _ _ _ _ _ _ _ _ _ _ _ went _ = absurd (cc went)
+drained-where ending.Drained turns g TurnAnswer.Spent t links _ _ _ _ _ _ _ _ _ _ _ went _ = absurd (cc went)
+drained-where ending.Drained turns g TurnAnswer.Memory t links _ _ _ _ _ _ _ _ _ _ _ went _ = absurd (cc went)
