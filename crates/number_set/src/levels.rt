@@ -8,7 +8,7 @@ ghost use Rattle.number_set.specs.Words.{AreTops, has_number, is_set};
 
 use crate::bits::{WORD, highest_below, lowest_from, without_lowest};
 use crate::words;
-use crate::words::{either_at, fill_words, put_number};
+use crate::words::{either_at, end_of_either, fill_words, put_number};
 use std::alloc::{AllocError, Global};
 
 /// Words, and the places of those that aren't 0, as words of their own.
@@ -102,6 +102,9 @@ impl Levels {
             (has_number a.entry.1.now.words.items) (has_number b.entry.0.now.words.items) (has_number b.entry.1.now.words.items))
             from found.0 found.1) }
     {
+        if from >= end_of_either(&a.0.words, &a.1.words, &b.0.words, &b.1.words) {
+            return None;
+        }
         let mut at = from;
         while let Some(next) = next_place(a, b, at) {
             let word = Levels::either_at(a, b, next);

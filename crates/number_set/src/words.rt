@@ -75,8 +75,8 @@ pub(crate) fn either_at(
     (word_at(first, at) & word_at(second, at)) | (word_at(third, at) & word_at(fourth, at))
 }
 
-// From this word on no number is in the first two or in the last two.
-fn end_of_either(first: &[u64], second: &[u64], third: &[u64], fourth: &[u64]) -> usize
+/// From this word on no number is in the first two or in the last two.
+pub(crate) fn end_of_either(first: &[u64], second: &[u64], third: &[u64], fourth: &[u64]) -> usize
     ensures none { (n : ℕ) → 64 * result ≤ n → in_either (has_number first.now)
         (has_number second.now) (has_number third.now) (has_number fourth.now) n ≡ false }
     ensures small { length first.now ≤ 2 ^ 58 → length third.now ≤ 2 ^ 58 → result ≤ 2 ^ 58 }
