@@ -11,6 +11,7 @@ Stages, each over a relay of its own:
   many      1,100 links, one after the other, each to the target, with bytes of its own both ways
   halves    1 MiB each way, the second one sent only once the first one and its end came, in both orders
   starved   with few descriptors it ends at once and says so, or it serves
+  idle      links that moved 64 KiB each way and are idle hold at most 2,200 bytes each, and cost no processor
   stopped   a reader that stops for seconds: memory stays within the hold mark, the processor is idle, then all arrives
   vanished  clients that vanish while bytes come for them
   short     links beyond the descriptors: each one in the end
@@ -341,6 +342,46 @@ async def starved(program):
     return f'{least} descriptors serve, fewer are told'
 
 
+async def idle(program, rng, links, size, seconds):
+    """Room that is kept twice over, or isn't given up, shows in what idle links hold."""
+    server = await asyncio.start_server(echo, '127.0.0.1', 0, backlog=1024)
+    relay = Relay(program, server.sockets[0].getsockname()[1], links + 1)
+    data = rng.randbytes(size)
+    both = [await moved(relay, data)]  # the first link brings what all share
+    before = relay.resident()
+    for _ in range(links):
+        both.append(await moved(relay, data))
+    held = (relay.resident() - before) // links
+    used = relay.seconds()
+    await asyncio.sleep(seconds)
+    used = relay.seconds() - used
+    if held > 2200:
+        fail(f'an idle link holds {held} bytes')
+    if used > .05 * seconds:
+        fail(f'{links} idle links cost {used:.2f} s in {seconds} s')
+    for _, writer in both:
+        writer.close()
+    if told(await asyncio.to_thread(relay.report)) != {'done': [(size,) * 4] * (links + 1)}:
+        fail('the report of idle links tells other numbers')
+    return f'{held} bytes a link, {used:.2f} s of {seconds} s'
+
+
+async def echo(reader, writer):
+    while data := await reader.read(65536):
+        writer.write(data)
+        await writer.drain()
+    writer.close()
+
+
+async def moved(relay, data):
+    """A link that stays open, once these bytes went through it and came back."""
+    reader, writer = await asyncio.open_connection('127.0.0.1', relay.port)
+    writer.write(data)
+    if await reader.readexactly(len(data)) != data:
+        fail('an echo brings other bytes')
+    return reader, writer
+
+
 async def stopped(program, rng, size, seconds, words):
     server = socket.create_server(('127.0.0.1', 0))
     server.setsockopt(socket.SOL_SOCKET, socket.SO_RCVBUF, 65536)
@@ -355,7 +396,7 @@ async def stopped(program, rng, size, seconds, words):
     await asyncio.sleep(seconds)
     used = relay.seconds() - used
     grown = relay.resident() - before
-    if grown > 2 * MIB:
+    if grown > .9 * MIB:
         fail(f'a reader that stopped costs {grown / MIB:.1f} MiB')
     if used > .05 * seconds:
         fail(f'a reader that stopped costs {used:.2f} s in {seconds} s')
@@ -450,6 +491,7 @@ async def main():
         ('many', many(program, rng, 1100)),
         ('halves', halves(program, rng, MIB)),
         ('starved', starved(program)),
+        ('idle', idle(program, rng, 450, 65536, 1)),
         ('stopped', stopped(program, rng, (8 if quick else 64) * MIB, 1 if quick else 5, ())),
         ('vanished', vanished(program, rng, 5 if quick else 40)),
         ('short', short(program, rng, 20 if quick else 60, 24 if quick else 60, 20_000)),

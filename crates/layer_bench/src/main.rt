@@ -1,14 +1,18 @@
-//! A fixed amount of work on one layer, by one word, for `bench/layers.sh` to time: what it prints says how much was done.
+//! A fixed amount of work on one layer, by one word, for `bench/layers.sh` to time and `bench/calls.sh` to count: what it prints says how much was done.
 //! Without a word it does a little of each.
 #![tactic(auto)]
 
+mod buffers;
 mod due;
+mod events;
 mod idle;
 mod links;
 mod passing;
 mod timers;
 
+use buffers::{Use, rounds_of_pieces, rounds_of_references};
 use due::rounds_of_due;
+use events::rounds_of_events;
 use idle::idle_bevs;
 use links::idle_turns;
 use passing::{copied, passed};
@@ -36,8 +40,23 @@ fn main(rt: HostRuntime) -> anyhow::Result<()> {
         Some(word) => one(&rt, alloc, word.as_str(), MUCH),
         None => {
             for word in [
-                "copy", "none", "to-crlf", "to-lf", "hex-out", "hex-in", "due", "idle", "links",
+                "copy",
+                "none",
+                "to-crlf",
+                "to-lf",
+                "hex-out",
+                "hex-in",
+                "due",
+                "idle",
+                "links",
                 "timers",
+                "add",
+                "drain",
+                "exchange",
+                "move",
+                "reference",
+                "events",
+                "common",
             ] {
                 one(&rt, alloc, word, LITTLE)?;
             }
@@ -54,6 +73,13 @@ fn one(rt: &impl Print, alloc: Global, word: &str, amount: u32) -> anyhow::Resul
         "idle" => idle_bevs(alloc, amount)?,
         "links" => idle_turns(alloc, IDLE_LINKS, amount)?,
         "timers" => rounds_of_timers(alloc, TIMERS, (amount / 1_024).max(1))?,
+        "add" => rounds_of_pieces(alloc, Use::Add, amount)?,
+        "drain" => rounds_of_pieces(alloc, Use::Drain, amount)?,
+        "exchange" => rounds_of_pieces(alloc, Use::Exchange, amount)?,
+        "move" => rounds_of_pieces(alloc, Use::Move, amount)?,
+        "reference" => rounds_of_references(alloc, amount)?,
+        "events" => rounds_of_events(alloc, false, amount)?,
+        "common" => rounds_of_events(alloc, true, amount)?,
         _ => match filter_named(word.as_bytes()) {
             Some(kind) => passed(alloc, kind, amount)?,
             None => 0,
