@@ -9,8 +9,8 @@ const WAITING: u64 = 1_000;
 /// The delay of a round's events, in milliseconds.
 const DELAY: u64 = 10;
 
-/// In each round three events are added, one is deleted, and two are called, beside a thousand that wait; how many were called. Where
-/// the delay is common, they stand in its queue.
+/// In each round three events are added, one is deleted, and two are called, beside a thousand that wait; how many were
+/// called. Where the delay is common, they stand in its queue.
 pub fn rounds_of_events(alloc: Global, is_common: bool, rounds: u32) -> Result<u64, BaseFault> {
     let mut base = Base::new(alloc, 1)?;
     let calls = rounds_on(&mut base, is_common, rounds);

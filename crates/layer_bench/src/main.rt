@@ -1,4 +1,5 @@
-//! A fixed amount of work on one layer, by one word, for `bench/layers.sh` to time and `bench/calls.sh` to count: what it prints says how much was done.
+//! A fixed amount of work on one layer, by one word, for `bench/layers.sh` to time and `bench/calls.sh` to count: what it
+//! prints says how much was done.
 //! Without a word it does a little of each.
 #![tactic(auto)]
 
