@@ -182,6 +182,14 @@ pub trait Port {
         ensures told { PortStays (told self.old) (told self.new) }
         ensures vouched { LongerBy (vouches self.old) (vouches self.new) (close_events end) };
 
+    /// Says that no more links will be asked for, so that the port may stop listening. This body does nothing.
+    fn stop_accepting(&mut self)
+        ensures cause { FaultsStay (faults self.old) (faults self.new) }
+        ensures ends { AllWent (ends self.old) (ends self.new) (λ _. no_step) }
+        ensures told { PortStays (told self.old) (told self.new) }
+        ensures vouched { LongerBy (vouches self.old) (vouches self.new) [] }
+    {}
+
     /// Where no link waits, none does until a turn begins or a link is opened.
     ghost waits_no_more: { (plan : Self.Plan) (t u : Trace) → TellsNoLinks u → none_waits plan t → none_waits plan (t ++ u) };
 

@@ -61,9 +61,14 @@ tells_now p (Some x) r b h s k = s
 tells_anyway : (p q r : Option Bool) (b : Bool) → (IsSome p → IsSome q) → Becomes q r b → IsSome p → IsSome r
 tells_anyway p q r b h s k = ap is_some (tells_now p q r b h s k)
 
+-- a value that stayed stays on
+stays_on : {T : Type 0} (p q r : Option T) → Stays p q → Stays q r → Stays p r
+stays_on None q r h s = tt
+stays_on (Some b) q r h s = subst (λ z. MatchOption z ⊤ (λ before. r ≡ Some before)) h s
+
 reading_stays : (p q r : Option ℕ) (ts : List ℕ) → TellsReading p q ts → Stays q r → TellsReading p r ts
 reading_stays None q r [] h s = tt
-reading_stays (Some b) q r [] h s = subst (λ z. MatchOption z ⊤ (λ before. r ≡ Some before)) h s
+reading_stays (Some b) q r [] h s = stays_on (Some b) q r h s
 reading_stays None q r (x ∷ ts) h s = tt
 reading_stays (Some b) None r (x ∷ ts) h s = absurd h
 reading_stays (Some b) (Some y) r (x ∷ ts) h s = subst (λ z. IsSomeAnd z (LastFollows 0 (x ∷ ts))) (sym s) h
@@ -124,6 +129,7 @@ module _ (g : Settings) (began : PortTold) (told new : PortTold) (t : Trace) (ti
     accepting = tells_still began.accepting told.accepting new.accepting tied.accepting s.accepting;
     readings = number_stays began.readings told.readings new.readings _ _ tied.readings s.readings (ap length (times_on u c.times));
     reading = reading_on began.reading told.reading new.reading (times t) (times (t ++ u)) tied.reading s.reading (times_on u c.times);
+    started = stays_on began.started told.started new.started tied.started s.started;
   }
 
   -- a poll, which asks to accept exactly where fewer links than may be opened were opened
@@ -138,6 +144,7 @@ module _ (g : Settings) (began : PortTold) (told new : PortTold) (t : Trace) (ti
     accepting = tells_anyway began.accepting told.accepting new.accepting (opens_accepting answer) tied.accepting s.accepting;
     readings = number_stays began.readings told.readings new.readings _ _ tied.readings s.readings (ap length (times_on u none));
     reading = reading_on began.reading told.reading new.reading (times t) (times (t ++ u)) tied.reading s.reading (times_on u none);
+    started = stays_on began.started told.started new.started tied.started s.started;
   }
     where
       u : Trace
@@ -176,6 +183,7 @@ module _ (g : Settings) (began : PortTold) (told new : PortTold) (t : Trace) (ti
     accepting = tells_still began.accepting told.accepting new.accepting tied.accepting s.0.accepting;
     readings = number_stays began.readings told.readings new.readings _ _ tied.readings s.0.readings (ap length (times_on u refl));
     reading = reading_on began.reading told.reading new.reading (times t) (times (t ++ u)) tied.reading s.0.reading (times_on u refl);
+    started = stays_on began.started told.started new.started tied.started s.0.started;
   }
     where
       u : Trace
@@ -191,6 +199,7 @@ module _ (g : Settings) (began : PortTold) (told new : PortTold) (t : Trace) (ti
     accepting = tells_anyway began.accepting told.accepting new.accepting false tied.accepting closed;
     readings = number_stays began.readings told.readings new.readings _ _ tied.readings s.readings refl;
     reading = reading_stays began.reading told.reading new.reading (times t) tied.reading s.reading;
+    started = stays_on began.started told.started new.started tied.started s.started;
   }
 
   -- the clock was read
@@ -206,6 +215,7 @@ module _ (g : Settings) (began : PortTold) (told new : PortTold) (t : Trace) (ti
         (ap length (times-append t u) ∙ length-append (times t) (ms ∷ []));
     reading = subst (λ z. TellsReading began.reading new.reading z) (sym (times-append t u))
         (reading_becomes began.reading told.reading new.reading (times t) reading ms tied.reading s.reading is);
+    started = stays_on began.started told.started new.started tied.started s.started;
   }
     where
       u : Trace

@@ -14,7 +14,7 @@ use Rattle.relay_model.specs.Totals.{is_read_of, is_write_of, is_check_of, room_
 use Rattle.relay_model.specs.Totals.{marks_read_by, marks_write_by, made_connected_by, connected_by, closed_by, last_timeout}
 use Rattle.relay_model.specs.Totals.{polls_that_accept, opened, is_opened, is_poll}
 use Rattle.ev_types.specs.Times.{latest}
-use Rattle.ev_types.specs.Told.{Adds, Raises, Counts, EndTold}
+use Rattle.ev_types.specs.Told.{Adds, Raises, Counts, Stays, EndTold}
 use Rattle.relay_model.specs.Tied.{TellsReading, LastFollows, EndTied, EndTiesJoin, NothingIsTied}
 
 pub Adds-append : (p q r : Option (List ℕ)) (xs ys : List ℕ) → Adds p q xs → Adds q r ys → Adds p r (xs ++ ys)
@@ -96,6 +96,10 @@ tells_reading-none : (p : Option ℕ) → TellsReading p p []
 tells_reading-none None = tt
 tells_reading-none (Some before) = refl
 
+stays-none : {T : Type 0} (p : Option T) → Stays p p
+stays-none None = tt
+stays-none (Some before) = refl
+
 tells_timeout-none : (p : Option (Option ℕ)) → MatchOption p ⊤ (λ before. p ≡ Some (last_timeout before []))
 tells_timeout-none None = tt
 tells_timeout-none (Some before) = refl
@@ -109,6 +113,7 @@ nothing_is_tied g port ends = record {
     accepting = λ told. told;
     readings = counts-none port.readings;
     reading = tells_reading-none port.reading;
+    started = stays-none port.started;
   };
   ends = λ e. record {
     handed_out = adds-none (ends e).handed_out;

@@ -49,7 +49,7 @@ pub record EndTied (began now : EndTold) (e : SideId) (t : Trace) : Type 0 where
   pub write_marks : Counts began.write_marks now.write_marks (count_by (marks_write_by e) t)
 
 -- What is told of the whole port is what the trace says. A poll asks to accept where fewer links than may be opened in all
--- were opened before it.
+-- were opened before it. The addresses of the last start stay, as no turn starts the port.
 pub record PortTied (g : Settings) (began now : PortTold) (t : Trace) : Type 0 where
   pub accept_polls : Counts began.accept_polls now.accept_polls (polls_that_accept g.links 0 t)
   pub timeout : MatchOption began.timeout ⊤ (λ before. now.timeout ≡ Some (last_timeout before t))
@@ -57,6 +57,7 @@ pub record PortTied (g : Settings) (began now : PortTold) (t : Trace) : Type 0 w
   pub accepting : IsSome began.accepting → IsSome now.accepting
   pub readings : Counts began.readings now.readings (length (times t))
   pub reading : TellsReading began.reading now.reading (times t)
+  pub started : Stays began.started now.started
 
 -- A port is tied to the trace of a run since the run began.
 pub record IsTied (g : Settings) (port_began port_now : PortTold) (ends_began ends_now : SideId → EndTold) (t : Trace) : Type 0 where

@@ -75,6 +75,7 @@ step_of (call.Read end answer, into, wants, marked) e = step_at end (read_step a
 step_of (call.Write end answer, from, wants, marked) e = step_at end (write_step answer from) e
 step_of (call.CloseWrite end, bytes, wants, marked) e = step_at end close_write_step e
 step_of (call.Close end, bytes, wants, marked) e = step_at end close_step e
+step_of (call.StopAccepting, bytes, wants, marked) e = no_step
 
 -- what is told of each end, the calls being listed with the last one first
 abbrev pub ends_by : List Heard → SideId → EndTold
@@ -96,6 +97,7 @@ told_after (call.Read end answer) told = told
 told_after (call.Write end answer) told = told
 told_after (call.CloseWrite end) told = told
 told_after (call.Close end) told = told
+told_after call.StopAccepting told = told
 
 -- what is told of the whole port
 abbrev pub told_by : List Heard → PortTold

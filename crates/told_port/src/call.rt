@@ -16,6 +16,7 @@ pub enum Call {
     Write(SideId, WriteAnswer),
     CloseWrite(SideId),
     Close(SideId),
+    StopAccepting,
 }
 
 /// A call with the slices that it was given, as it left them. Those that it doesn't have are empty.

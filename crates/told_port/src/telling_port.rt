@@ -249,6 +249,20 @@ impl<P: Port> Port for TellingPort<P> {
         self.log = self.log.then(&plain(Call::Close(end)));
     }
 
+    fn stop_accepting(&mut self)
+        ensures ends_within { AllWent (P.ends self.old.inner) (P.ends self.new.inner) (λ _. no_step) }
+        ensures told_within { PortStays (P.told self.old.inner) (P.told self.new.inner) }
+
+        // What every port says.
+        ensures cause { FaultsStay (P.faults self.old.inner) (P.faults self.new.inner) }
+        ensures ends { AllWent (ends_by self.old.log.calls) (ends_by self.new.log.calls) (λ _. no_step) }
+        ensures told { PortStays (told_by self.old.log.calls) (told_by self.new.log.calls) }
+        ensures vouched { LongerBy (P.vouches self.old.inner) (P.vouches self.new.inner) [] }
+    {
+        self.inner.stop_accepting();
+        self.log = self.log.then(&plain(Call::StopAccepting));
+    }
+
     ghost waits_no_more = { P.waits_no_more };
 
     ghost unheard = { λ p. P.unheard p.inner };
