@@ -25,13 +25,15 @@ leads_leads a None (Some c) p q = absurd q
 leads_leads None (Some b) (Some c) p q = absurd p
 leads_leads (Some a) (Some b) (Some c) p q =
     let first = p.0 in
-    let second = q.0 in
-    (omega (arith, first, second), λ e.
-    let same : a.1 ≡ b.1 = omega (arith, first, second, e) in
-    let same_too : b.1 ≡ c.1 = omega (arith, first, second, e) in
-    let here = p.1 same in
-    let there = q.1 same_too in
-    omega (arith, here, there))
+    let second = q.0 in (
+      omega (arith, first, second),
+      λ e.
+          let same : a.1 ≡ b.1 = omega (arith, first, second, e) in
+          let same_too : b.1 ≡ c.1 = omega (arith, first, second, e) in
+          let here = p.1 same in
+          let there = q.1 same_too in
+          omega (arith, here, there),
+    )
 
 -- what comes before leads
 before_leads : (a b : ℕ × ℕ) → comes_before a b ≡ true → Leads (Some a) (Some b)
@@ -60,7 +62,8 @@ pub sooner-is_either : (a b : Option (ℕ × ℕ)) (x : ℕ × ℕ) → sooner a
 sooner-is_either None b x h = inr h
 sooner-is_either (Some a) None x h = inl h
 sooner-is_either (Some a) (Some b) x h =
-    cond_both (comes_before b a) (Some b) (Some a) (λ s. s ≡ Some x → (Some a ≡ Some x) ⊎ (Some b ≡ Some x)) (λ _ e. inr e) (λ _ e. inl e) h
+    cond_both (comes_before b a) (Some b) (Some a) (λ s. s ≡ Some x → (Some a ≡ Some x) ⊎ (Some b ≡ Some x))
+    (λ _ e. inr e) (λ _ e. inl e) h
 
 -- a number's own moment, where it has one
 pub own_is : (k : ℕ) (moment : Option ℕ) (x : ℕ × ℕ) → option_map (λ m. (k, m)) moment ≡ Some x → (x.0 ≡ k) × (moment ≡ Some x.1)

@@ -1,22 +1,15 @@
 -- What stands at the top of a tree, and what a tree is after a moment was set, a place was written or numbers were added.
-use Rattle.std.proofs.Common.{◌≡◌, ◌≢◌, ◌∙◌, inl, inr, refl, sym, ap, subst, ℕ, zero, suc, ◌+◌, ◌-◌, ◌*◌, ◌/◌, ◌<◌, ◌≤◌, List, [], ◌++◌, length, get_or, set}
-use Rattle.std.proofs.Common.{replicate, Option, Some, None, arith, length-append, take, IfSome}
+use Rattle.std.proofs.Common.{◌≡◌, ◌≢◌, ◌∙◌, inl, inr, refl, sym, ap, ap₂, subst, ℕ, zero, suc, ◌+◌, ◌-◌, ◌*◌, ◌/◌, ◌<◌, ◌≤◌}
+use Rattle.std.proofs.Common.{List, ◌++◌, length, get_or, set, replicate, Option, Some, None, arith, length-append, take, IfSome}
 use Rattle.std.specs.Option.{option_map}
 use Rattle.std.proofs.lemmas.Bool.{cases_eq, cases_lt}
-use Rattle.std.proofs.lemmas.List.{get_or_past, get_or-set_same, get_or-set_other, get_or_append_left, get_or-append_right, get_or-replicate}
-use Rattle.std.proofs.lemmas.List.{length-replicate, take_all}
+use Rattle.std.proofs.lemmas.List.{get_or_past, get_or-set_same, get_or-set_other, get_or_append_left, get_or-append_right}
+use Rattle.std.proofs.lemmas.List.{get_or-replicate, length-replicate, take_all}
 use Rattle.std.proofs.lemmas.Option.{none-some}
 use Rattle.next_moments.specs.Earliest.{moment_for, ComesFirst}
 use Rattle.next_moments.specs.Tree.{sooner, own_at, first_at, first_below, IsTree}
-use Rattle.next_moments.proofs.OrderLemmas.{Leads, leads_itself, leads_leads, sooner-leads_first, sooner-leads_second, sooner-is_either, own_is, led_by_none}
-
--- without numbers there are no places
-pub empty_tree : (ms : List (Option ℕ)) (fs : List (Option (ℕ × ℕ))) → ms ≡ [] → fs ≡ [] → IsTree ms fs
-empty_tree ms fs none nothing =
-    subst (λ l. IsTree l fs) (sym none) (subst (IsTree []) (sym nothing) (record {
-      lengths = refl;
-      places = λ k. refl;
-    }))
+use Rattle.next_moments.proofs.OrderLemmas.{Leads, leads_itself, leads_leads, sooner-leads_first, sooner-leads_second}
+use Rattle.next_moments.proofs.OrderLemmas.{sooner-is_either, own_is, led_by_none}
 
 module _ (ms : List (Option ℕ)) (fs : List (Option (ℕ × ℕ))) (tree : IsTree ms fs) where
   abbrev own : ℕ → Option (ℕ × ℕ)
@@ -47,7 +40,9 @@ module _ (ms : List (Option ℕ)) (fs : List (Option (ℕ × ℕ))) (tree : IsTr
 
   -- the top leads each place
   top_leads : (n i : ℕ) → i ≤ n → Leads (first_at fs 0) (first_at fs i)
-  top_leads zero i h = subst (λ j. Leads (first_at fs 0) (first_at fs j)) (let e : 0 ≡ i = omega (arith, h) in e) (leads_itself (first_at fs 0))
+  top_leads zero i h =
+      let e : 0 ≡ i = omega (arith, h) in
+      subst (λ j. Leads (first_at fs 0) (first_at fs j)) e (leads_itself (first_at fs 0))
   top_leads (suc n) i h = elim (cases_eq i 0) [
     | inl is ↦ subst (λ j. Leads (first_at fs 0) (first_at fs j)) (sym is) (leads_itself (first_at fs 0))
     | inr more ↦
@@ -72,11 +67,11 @@ module _ (ms : List (Option ℕ)) (fs : List (Option (ℕ × ℕ))) (tree : IsTr
       absurd (none-some x (sym (get_or_past fs k None (omega (arith, past, lengths))) ∙ h)))
   stands (suc n) k x past h = elim (sooner-is_either (sooner (own k) (left k)) (right k) x (sym (tree.places k) ∙ h)) [
     | inl upper ↦ elim (sooner-is_either (own k) (left k) x upper) [
-        | inl is ↦
-            (let parts = own_is k (moment_for ms k) x is in
-            subst (λ j. moment_for ms j ≡ Some x.1) (sym parts.0) parts.1)
-        | inr is ↦ stands n (2 * k + 1) x (omega (arith, past)) is
-      ]
+      | inl is ↦
+          (let parts = own_is k (moment_for ms k) x is in
+          subst (λ j. moment_for ms j ≡ Some x.1) (sym parts.0) parts.1)
+      | inr is ↦ stands n (2 * k + 1) x (omega (arith, past)) is
+    ]
     | inr is ↦ stands n (2 * k + 2) x (omega (arith, past)) is
   ]
 
@@ -107,30 +102,32 @@ get_or-more {X = X} xs n k = elim (cases_lt k (length xs)) [
       get_or-append_right xs (replicate n None) (length xs) k None refl past ∙
       (elim (cases_lt (k - length xs) n) [
         | inl there ↦ get_or-replicate n (k - length xs) None None there
-        | inr behind ↦ get_or_past (replicate n None) (k - length xs) None (let e : length (replicate {A = Option X} n None) ≡ n = length-replicate n None in omega (arith, e, behind))
+        | inr behind ↦
+            (let count : length (replicate {A = Option X} n None) ≡ n = length-replicate n None in
+            get_or_past (replicate n None) (k - length xs) None (omega (arith, count, behind)))
       ]) ∙ sym (get_or_past xs k None past)
 ]
 
 -- with numbers that have no moment it is a tree again
-pub longer_tree : (ms : List (Option ℕ)) (fs : List (Option (ℕ × ℕ))) (n : ℕ) → IsTree ms fs → IsTree (ms ++ replicate n None) (fs ++ replicate n None)
+pub longer_tree : (ms : List (Option ℕ)) (fs : List (Option (ℕ × ℕ))) (n : ℕ) → IsTree ms fs
+    → IsTree (ms ++ replicate n None) (fs ++ replicate n None)
 longer_tree ms fs n tree = record {
   lengths =
-    (let moments : length (ms ++ replicate n None) ≡ length ms + n =
+      (let moments : length (ms ++ replicate n None) ≡ length ms + n =
       length-append ms (replicate n None) ∙ ap (λ l. length ms + l) (length-replicate {A = Option ℕ} n None) in
-    let places : length (fs ++ replicate n None) ≡ length fs + n =
+      let places : length (fs ++ replicate n None) ≡ length fs + n =
       length-append fs (replicate n None) ∙ ap (λ l. length fs + l) (length-replicate {A = Option (ℕ × ℕ)} n None) in
-    places ∙ ap (λ l. l + n) tree.lengths ∙ sym moments);
+      places ∙ ap (λ l. l + n) tree.lengths ∙ sym moments);
   places = λ k.
-    get_or-more fs n k ∙ tree.places k
-    ∙ sym (ap (λ o. sooner (sooner (option_map (λ q. (k, q)) o) (first_at (fs ++ replicate n None) (2 * k + 1))) (first_at (fs ++ replicate n None) (2 * k + 2)))
-      (get_or-more ms n k)
-      ∙ ap (λ s. sooner (sooner (own_at ms k) s) (first_at (fs ++ replicate n None) (2 * k + 2))) (get_or-more fs n (2 * k + 1))
-      ∙ ap (λ s. sooner (sooner (own_at ms k) (first_at fs (2 * k + 1))) s) (get_or-more fs n (2 * k + 2)));
+      get_or-more fs n k ∙ tree.places k
+      ∙ sym (ap₂ sooner (ap₂ sooner (ap (λ o. option_map (λ q. (k, q)) o) (get_or-more ms n k)) (get_or-more fs n (2 * k + 1)))
+      (get_or-more fs n (2 * k + 2)));
 }
 
 -- both lists were made so long
 pub resized_tree : (ms longer : List (Option ℕ)) (fs more : List (Option (ℕ × ℕ))) (len : ℕ) → IsTree ms fs → length ms ≤ len
-    → longer ≡ take len ms ++ replicate (len - length ms) None → more ≡ take len fs ++ replicate (len - length fs) None → IsTree longer more
+    → longer ≡ take len ms ++ replicate (len - length ms) None → more ≡ take len fs ++ replicate (len - length fs) None
+    → IsTree longer more
 resized_tree ms longer fs more len tree room is are =
     let lengths = tree.lengths in
     subst (λ l. IsTree l more) (sym (is ∙ ap (λ l. l ++ replicate (len - length ms) None) (take_all len ms room)))
@@ -140,12 +137,13 @@ resized_tree ms longer fs more len tree room is are =
     (longer_tree ms fs (len - length ms) tree))
 
 -- a number that has a moment is in the list
-pub has_place : (ms : List (Option ℕ)) (n m : ℕ) → moment_for ms n ≡ Some m → n < length ms
+has_place : (ms : List (Option ℕ)) (n m : ℕ) → moment_for ms n ≡ Some m → n < length ms
 has_place ms n m h = elim (cases_lt n (length ms)) [
   | inl within ↦ within
   | inr past ↦ absurd (none-some m (sym (get_or_past ms n None past) ∙ h))
 ]
 
+-- and so is the number that comes first
 pub first_within : (ms : List (Option ℕ)) (r : Option (ℕ × ℕ)) → ComesFirst ms r → IfSome r (λ found. found.0 < length ms)
 first_within ms None h = tt
 first_within ms (Some x) h = has_place ms x.0 x.1 h.stands
@@ -158,16 +156,16 @@ module _ (ms : List (Option ℕ)) (fs : List (Option (ℕ × ℕ))) (at : ℕ) (
   -- what comes first of a number and of the places below it, where another place was written
   below_same : (k : ℕ) → 2 * k + 1 ≢ at → 2 * k + 2 ≢ at → first_below ms fs k ≡ first_below ms (set fs at v) k
   below_same k no_left no_right =
-      sym (ap (λ s. sooner (sooner (own_at ms k) s) (first_at (set fs at v) (2 * k + 2))) (get_or-set_other fs at (2 * k + 1) v None no_left)
-      ∙ ap (λ s. sooner (sooner (own_at ms k) (first_at fs (2 * k + 1))) s) (get_or-set_other fs at (2 * k + 2) v None no_right))
+      sym (ap₂ sooner (ap (sooner (own_at ms k)) (get_or-set_other fs at (2 * k + 1) v None no_left))
+      (get_or-set_other fs at (2 * k + 2) v None no_right))
 
   -- the place that was written is right, and so are the others that are not above it
-  pub right_after : at < length fs → v ≡ first_below ms fs at → AreRightBut at ms fs → (k : ℕ) → 2 * k + 1 ≢ at → 2 * k + 2 ≢ at
-      → first_at (set fs at v) k ≡ first_below ms (set fs at v) k
+  pub right_after : at < length fs → v ≡ first_below ms fs at → AreRightBut at ms fs → (k : ℕ) → 2 * k + 1 ≢ at
+      → 2 * k + 2 ≢ at → first_at (set fs at v) k ≡ first_below ms (set fs at v) k
   right_after within is others k no_left no_right = elim (cases_eq k at) [
     | inl here ↦
-        subst (λ j. first_at (set fs at v) j ≡ first_below ms fs j) (sym here) (get_or-set_same fs at v None within ∙ is)
-        ∙ below_same k no_left no_right
+        subst (λ j. first_at (set fs at v) j ≡ first_below ms fs j) (sym here)
+        (get_or-set_same fs at v None within ∙ is) ∙ below_same k no_left no_right
     | inr other ↦ get_or-set_other fs at k v None other ∙ others k other ∙ below_same k no_left no_right
   ]
 

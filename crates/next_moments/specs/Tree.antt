@@ -1,5 +1,5 @@
--- How moments are kept: beside them, at the place of each number, stands what comes first of that number and of the places below it. Below the
--- place k stand 2 k + 1 and 2 k + 2.
+-- How moments are kept: beside them, at the place of each number, stands what comes first of that number and of the
+-- places below it. Below the place k stand 2 k + 1 and 2 k + 2.
 use Rattle.std.specs.Prelude.{◌≡◌, ℕ, ◌+◌, ◌*◌, ◌==◌, ◌&&◌, ◌||◌, nat_lt, Bool, if◌then◌else◌, List, length, Option, Some, None, slice_index_or}
 use Rattle.std.specs.Option.{option_map}
 use Rattle.next_moments.specs.Earliest.{moment_for}

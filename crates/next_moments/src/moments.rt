@@ -1,6 +1,7 @@
 // For each number below a length a moment or none, and which comes first.
 ghost use Rattle.std.specs.Prelude.{if◌then◌else◌};
-ghost use Rattle.std.specs.Prelude.{◌≡◌, ℕ, ◌==◌, max, ◌-◌, ◌<◌, ◌≤◌, ◌++◌, List, [], length, replicate, slice_set, Option, None, IfSome, MatchOption, OnOk, OnErr, IsOk};
+ghost use Rattle.std.specs.Prelude.{◌≡◌, ℕ, ◌==◌, max, ◌-◌, ◌<◌, ◌≤◌, ◌++◌, List, [], length, replicate, slice_set, Option, None};
+ghost use Rattle.std.specs.Prelude.{IfSome, MatchOption, OnOk, OnErr, IsOk};
 ghost use Rattle.next_moments.specs.Earliest.{moment_for, ComesFirst, IsEarliestDue, NoneIsDue, taken_from, is_taken};
 
 use crate::tree::{First, climb, first_at};
@@ -62,8 +63,8 @@ impl Moments {
         }
     }
 
-    /// Gives a number below the length a moment, or none, in place of what it had. Takes no memory; at most logarithmic in the length, and
-    /// constant where another number still comes first among a few.
+    /// Gives a number below the length a moment, or none, in place of what it had. Takes no memory; logarithmic in the length
+    /// at most, and constant where neither its old moment nor the new one comes first among a few numbers.
     ///
     /// Own.
     pub fn set(&mut self, number: usize, moment: Option<u64>)

@@ -20,13 +20,7 @@ fn sooner(a: First, b: First) -> First
     match (a, b) {
         (None, _) => b,
         (Some(_), None) => a,
-        (Some(first), Some(second)) => {
-            if comes_before(second, first) {
-                b
-            } else {
-                a
-            }
-        }
+        (Some(first), Some(second)) => { if comes_before(second, first) { b } else { a } }
     }
 }
 
