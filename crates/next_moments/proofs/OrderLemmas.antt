@@ -5,7 +5,7 @@ use Rattle.std.specs.Option.{option_map, option_eq}
 use Rattle.std.proofs.lemmas.Bool.{cond_both, and_parts, eqb-true, false≢true}
 use Rattle.std.proofs.lemmas.Bool.Decides.{nat_tests}
 use Rattle.std.proofs.lemmas.Option.{none-some, same_Some}
-use Rattle.next_moments.specs.Tree.{comes_before, sooner}
+use Rattle.next_moments.specs.Tree.{is_sooner, sooner}
 
 -- the first comes no later: its moment is no later, and where the moments are equal its number is no greater; none comes last
 abbrev pub Leads : Option (ℕ × ℕ) → Option (ℕ × ℕ) → Type 0
@@ -36,11 +36,11 @@ leads_leads (Some a) (Some b) (Some c) p q =
     )
 
 -- what comes before leads
-before_leads : (a b : ℕ × ℕ) → comes_before a b ≡ true → Leads (Some a) (Some b)
+before_leads : (a b : ℕ × ℕ) → is_sooner a b ≡ true → Leads (Some a) (Some b)
 before_leads a b h = (grind (arith, nat_tests), λ e. grind (arith, nat_tests))
 
 -- what the other does not come before leads
-not_before_leads : (a b : ℕ × ℕ) → comes_before b a ≡ false → Leads (Some a) (Some b)
+not_before_leads : (a b : ℕ × ℕ) → is_sooner b a ≡ false → Leads (Some a) (Some b)
 not_before_leads a b h = (grind (arith, nat_tests), λ e. grind (arith, nat_tests))
 
 -- the one that comes first leads the first of the two
@@ -48,21 +48,21 @@ pub sooner-leads_first : (a b : Option (ℕ × ℕ)) → Leads (sooner a b) a
 sooner-leads_first None b = tt
 sooner-leads_first (Some a) None = leads_itself (Some a)
 sooner-leads_first (Some a) (Some b) =
-    cond_both (comes_before b a) (Some b) (Some a) (λ s. Leads s (Some a)) (λ e. before_leads b a e) (λ _. leads_itself (Some a))
+    cond_both (is_sooner b a) (Some b) (Some a) (λ s. Leads s (Some a)) (λ e. before_leads b a e) (λ _. leads_itself (Some a))
 
 -- and the second
 pub sooner-leads_second : (a b : Option (ℕ × ℕ)) → Leads (sooner a b) b
 sooner-leads_second None b = leads_itself b
 sooner-leads_second (Some a) None = tt
 sooner-leads_second (Some a) (Some b) =
-    cond_both (comes_before b a) (Some b) (Some a) (λ s. Leads s (Some b)) (λ _. leads_itself (Some b)) (λ e. not_before_leads a b e)
+    cond_both (is_sooner b a) (Some b) (Some a) (λ s. Leads s (Some b)) (λ _. leads_itself (Some b)) (λ e. not_before_leads a b e)
 
 -- it is one of the two
 pub sooner-is_either : (a b : Option (ℕ × ℕ)) (x : ℕ × ℕ) → sooner a b ≡ Some x → (a ≡ Some x) ⊎ (b ≡ Some x)
 sooner-is_either None b x h = inr h
 sooner-is_either (Some a) None x h = inl h
 sooner-is_either (Some a) (Some b) x h =
-    cond_both (comes_before b a) (Some b) (Some a) (λ s. s ≡ Some x → (Some a ≡ Some x) ⊎ (Some b ≡ Some x))
+    cond_both (is_sooner b a) (Some b) (Some a) (λ s. s ≡ Some x → (Some a ≡ Some x) ⊎ (Some b ≡ Some x))
     (λ _ e. inr e) (λ _ e. inl e) h
 
 -- a number's own moment, where it has one

@@ -7,13 +7,13 @@ use Rattle.std.proofs.lemmas.List.{get_or_past, get_or-set_same, get_or-set_othe
 use Rattle.std.proofs.lemmas.List.{get_or-replicate, length-replicate, take_all}
 use Rattle.std.proofs.lemmas.Option.{none-some}
 use Rattle.next_moments.specs.Earliest.{moment_for, ComesFirst}
-use Rattle.next_moments.specs.Tree.{sooner, own_at, first_at, first_below, IsTree}
+use Rattle.next_moments.specs.Tree.{sooner, own_moment, first_at, first_below, IsTree}
 use Rattle.next_moments.proofs.OrderLemmas.{Leads, leads_itself, leads_leads, sooner-leads_first, sooner-leads_second}
 use Rattle.next_moments.proofs.OrderLemmas.{sooner-is_either, own_is, led_by_none}
 
 module _ (ms : List (Option ℕ)) (fs : List (Option (ℕ × ℕ))) (tree : IsTree ms fs) where
   abbrev own : ℕ → Option (ℕ × ℕ)
-  own k = own_at ms k
+  own k = own_moment ms k
 
   abbrev left : ℕ → Option (ℕ × ℕ)
   left k = first_at fs (2 * k + 1)
@@ -156,7 +156,7 @@ module _ (ms : List (Option ℕ)) (fs : List (Option (ℕ × ℕ))) (at : ℕ) (
   -- what comes first of a number and of the places below it, where another place was written
   below_same : (k : ℕ) → 2 * k + 1 ≢ at → 2 * k + 2 ≢ at → first_below ms fs k ≡ first_below ms (set fs at v) k
   below_same k no_left no_right =
-      sym (ap₂ sooner (ap (sooner (own_at ms k)) (get_or-set_other fs at (2 * k + 1) v None no_left))
+      sym (ap₂ sooner (ap (sooner (own_moment ms k)) (get_or-set_other fs at (2 * k + 1) v None no_left))
       (get_or-set_other fs at (2 * k + 2) v None no_right))
 
   -- the place that was written is right, and so are the others that are not above it

@@ -1,5 +1,6 @@
 -- A list of moments by number, as a contract sees it, and the number whose moment comes first.
-use Rattle.std.specs.Prelude.{◌≡◌, ℕ, ◌<◌, ◌≤◌, ◌==◌, Bool, false, List, Option, Some, None, MatchOption, IsSomeAnd, slice_index_or, slice_set}
+use Rattle.std.specs.Prelude.{◌≡◌, ℕ, ◌<◌, ◌≤◌, ◌==◌, Bool, false, List, Option, Some, None, MatchOption, IsSomeAnd}
+use Rattle.std.specs.Prelude.{slice_index_or, slice_set}
 
 -- the moment of a number, or None where it has none or is past the end
 abbrev pub moment_for : List (Option ℕ) → ℕ → Option ℕ

@@ -8,8 +8,8 @@ use crate::tree::{First, climb, first_at};
 use std::alloc::{AllocError, Global};
 use std::marker::Model;
 
-/// For each number below a length that grows a moment, in milliseconds, or none. It takes 40 bytes for each number below the length, and none
-/// more where a moment is set.
+/// For each number below a length that grows a moment, in milliseconds, or none. It takes 40 bytes for each number
+/// below the length, and none more where a moment is set.
 ///
 /// Own.
 #[derive(Drop)]
@@ -51,7 +51,8 @@ impl Moments {
         self.moments.len()
     }
 
-    /// The moment of a number, or None where it has none: one from the length on never has one. Takes no memory; constant cost.
+    /// The moment of a number, or None where it has none: one from the length on never has one. Takes no memory;
+    /// constant cost.
     ///
     /// Own.
     pub fn get(&self, number: usize) -> Option<u64>
@@ -63,8 +64,8 @@ impl Moments {
         }
     }
 
-    /// Gives a number below the length a moment, or none, in place of what it had. Takes no memory; logarithmic in the length
-    /// at most, and constant where neither its old moment nor the new one comes first among a few numbers.
+    /// Gives a number below the length a moment, or none, in place of what it had. Takes no memory; logarithmic in the
+    /// length at most, and constant where neither its old moment nor the new one comes first among a few numbers.
     ///
     /// Own.
     pub fn set(&mut self, number: usize, moment: Option<u64>)
@@ -79,8 +80,8 @@ impl Moments {
         climb(&self.moments, &mut self.firsts, number);
     }
 
-    /// Makes a shorter list so long, where the new numbers have no moment, and leaves one that is as long or longer. Takes memory where it is
-    /// shorter; linear in what is added. Out of memory it is refused, and changes nothing.
+    /// Makes a shorter list so long, where the new numbers have no moment, and leaves one that is as long or longer.
+    /// Takes memory where it is shorter; linear in what is added. Out of memory it is refused, and changes nothing.
     ///
     /// Own.
     pub fn lengthen(&mut self, len: usize) -> Result<(), AllocError>
@@ -102,8 +103,8 @@ impl Moments {
         Ok(())
     }
 
-    /// The number whose moment comes first, with that moment, and the least number of those that have the same; None where no number has a
-    /// moment. Takes no memory; constant cost.
+    /// The number whose moment comes first, with that moment, and the least number of those that have the same; None
+    /// where no number has a moment. Takes no memory; constant cost.
     ///
     /// Own.
     pub fn first(&self) -> Option<(usize, u64)>
@@ -113,8 +114,8 @@ impl Moments {
         first_at(&self.firsts, 0)
     }
 
-    /// Takes the moment of the number that comes first, where it is at most this time, and answers the number; None where none is due. Takes
-    /// no memory; costs what `set` does.
+    /// Takes the moment of the number that comes first, where it is at most this time, and answers the number; None
+    /// where none is due. Takes no memory; costs what `set` does.
     ///
     /// Own.
     pub fn take_due(&mut self, time: u64) -> Option<usize>

@@ -1,14 +1,14 @@
-// The tree over the numbers that finds the first moment: at the place of each number stands what comes first of it and of the places below it.
-// Below the place k stand 2 k + 1 and 2 k + 2, so the first of all stands at 0.
+// The tree over the numbers that finds the first moment: at the place of each number stands what comes first of it
+// and of the places below it. Below the place k stand 2 k + 1 and 2 k + 2, so the first of all stands at 0.
 ghost use Rattle.std.specs.Prelude.{◌≡◌, ◌≢◌, ℕ, ◌+◌, ◌*◌, ◌^◌, ◌<◌, length};
-ghost use Rattle.next_moments.specs.Tree.{comes_before, sooner, own_at, first_at, first_below, IsTree};
+ghost use Rattle.next_moments.specs.Tree.{is_sooner, sooner, own_moment, first_at, first_below, IsTree};
 
 /// A number with its moment, where it has one.
 pub(crate) type First = Option<(usize, u64)>;
 
 /// Whether a number with its moment comes before another.
-fn comes_before(a: (usize, u64), b: (usize, u64)) -> bool
-    ensures { result ≡ comes_before a b }
+fn is_sooner(a: (usize, u64), b: (usize, u64)) -> bool
+    ensures { result ≡ is_sooner a b }
 {
     a.1 < b.1 || (a.1 == b.1 && a.0 < b.0)
 }
@@ -20,7 +20,7 @@ fn sooner(a: First, b: First) -> First
     match (a, b) {
         (None, _) => b,
         (Some(_), None) => a,
-        (Some(first), Some(second)) => { if comes_before(second, first) { b } else { a } }
+        (Some(first), Some(second)) => { if is_sooner(second, first) { b } else { a } }
     }
 }
 
@@ -35,9 +35,9 @@ pub(crate) fn first_at(firsts: &[First], place: usize) -> First
 }
 
 /// The number with its moment.
-fn own_at(moments: &[Option<u64>], number: usize) -> First
+fn own_moment(moments: &[Option<u64>], number: usize) -> First
     requires { number < length moments.now }
-    ensures { result ≡ own_at moments.now number }
+    ensures { result ≡ own_moment moments.now number }
 {
     match moments[number] {
         Some(moment) => Some((number, moment)),
@@ -50,7 +50,7 @@ fn first_below(moments: &[Option<u64>], firsts: &[First], place: usize) -> First
     requires { place < length moments.now }
     ensures { result ≡ first_below moments.now firsts.now place }
 {
-    let own = own_at(moments, place);
+    let own = own_moment(moments, place);
     let left = first_at(firsts, 2 * place + 1);
     let right = first_at(firsts, 2 * place + 2);
     sooner(sooner(own, left), right)
