@@ -56,7 +56,7 @@ fn set_both(both: &mut Both, number: usize, moment: Option<u64>) {
 /// Makes both so long.
 fn lengthen_both(both: &mut Both, len: usize) -> Result<(), AllocError> {
     both.moments.lengthen(len)?;
-    while both.list.len() < len {
+    for _ in both.list.len()..len {
         both.list.push(None)?;
     }
     Ok(())
@@ -116,38 +116,9 @@ fn moments_answer_as_a_plain_list(rt: HostRuntime) {
     assert_eq!(rt; difference(rt.alloc()), Ok(None));
 }
 
-/// What is set, and the numbers that are taken at 50, one after the other.
-struct Row {
-    set: [Option<u64>; 5],
-    taken: [Option<usize>; 5],
-}
-
-const ROWS: &[Row] = &[
-    Row {
-        set: [None, None, None, None, None],
-        taken: [None, None, None, None, None],
-    },
-    Row {
-        set: [Some(50), Some(40), Some(30), Some(20), Some(10)],
-        taken: [Some(4), Some(3), Some(2), Some(1), Some(0)],
-    },
-    Row {
-        set: [Some(7), Some(7), Some(7), Some(7), Some(7)],
-        taken: [Some(0), Some(1), Some(2), Some(3), Some(4)],
-    },
-    Row {
-        set: [Some(51), None, Some(50), Some(0), Some(50)],
-        taken: [Some(3), Some(2), Some(4), None, None],
-    },
-    Row {
-        set: [None, Some(u64::MAX), None, Some(49), None],
-        taken: [Some(3), None, None, None, None],
-    },
-];
-
-/// The numbers that are taken at 50 after a row was set.
-fn taken(moments: &mut Moments, row: &Row) -> [Option<usize>; 5] {
-    for (number, moment) in row.set.iter().enumerate() {
+/// The numbers that are taken at 50, one after the other, after these moments were set.
+fn taken(moments: &mut Moments, set: &[Option<u64>]) -> [Option<usize>; 5] {
+    for (number, moment) in set.iter().enumerate() {
         if number < moments.len() {
             moments.set(number, *moment);
         }
@@ -161,19 +132,22 @@ fn taken(moments: &mut Moments, row: &Row) -> [Option<usize>; 5] {
     ]
 }
 
-/// The first row that is answered otherwise.
-fn first_wrong_row(alloc: Global) -> Result<Option<usize>, AllocError> {
-    for (place, row) in ROWS.iter().enumerate() {
-        let mut moments = Moments::new(alloc);
-        moments.lengthen(5)?;
-        if taken(&mut moments, row) != row.taken {
-            return Ok(Some(place));
-        }
-    }
-    Ok(None)
+/// The same for new moments.
+fn taken_of(alloc: Global, set: &[Option<u64>]) -> Result<[Option<usize>; 5], AllocError> {
+    let mut moments = Moments::new(alloc);
+    moments.lengthen(5)?;
+    Ok(taken(&mut moments, set))
 }
 
 #[test]
 fn due_numbers_come_by_moment_and_then_by_number(rt: HostRuntime) {
-    assert_eq!(rt; first_wrong_row(rt.alloc()), Ok(None));
+    let falling = taken_of(
+        rt.alloc(),
+        &[Some(50), Some(40), Some(30), Some(20), Some(10)],
+    );
+    assert_eq!(rt; falling, Ok([Some(4), Some(3), Some(2), Some(1), Some(0)]));
+    let equal = taken_of(rt.alloc(), &[Some(7), Some(7), Some(7), Some(7), Some(7)]);
+    assert_eq!(rt; equal, Ok([Some(0), Some(1), Some(2), Some(3), Some(4)]));
+    let late = taken_of(rt.alloc(), &[Some(51), None, Some(50), Some(0), Some(50)]);
+    assert_eq!(rt; late, Ok([Some(3), Some(2), Some(4), None, None]));
 }
