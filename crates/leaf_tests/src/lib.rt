@@ -8,6 +8,8 @@ mod buckets;
 #[cfg(test)]
 mod groups;
 #[cfg(test)]
+mod moments;
+#[cfg(test)]
 mod queues;
 #[cfg(test)]
 mod sets;
