@@ -5,3 +5,5 @@ pub mod AlongLemmas
 pub mod GoOnLemmas
 pub mod InPlaceLemmas
 pub mod ShiftLemmas
+pub mod HouseSteps
+pub mod StreamShift
