@@ -7,3 +7,5 @@ pub mod InPlaceLemmas
 pub mod ShiftLemmas
 pub mod HouseSteps
 pub mod StreamShift
+pub mod DigitLemmas
+pub mod PairLemmas
