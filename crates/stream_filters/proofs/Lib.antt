@@ -9,3 +9,4 @@ pub mod HouseSteps
 pub mod StreamShift
 pub mod DigitLemmas
 pub mod PairLemmas
+pub mod BytewiseLemmas

@@ -4,3 +4,4 @@ pub mod Parts
 pub mod StreamSteps
 pub mod House
 pub mod HouseLaws
+pub mod Bytewise
