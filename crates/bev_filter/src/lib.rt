@@ -3,11 +3,13 @@
 #![tactic(auto)]
 
 mod fault;
+mod own_filter;
 mod passing;
 mod step;
 
 pub use bev_core::Bev;
 pub use fault::PassFault;
+pub use own_filter::{process_input_by, process_output_by};
 pub use passing::{process_input, process_output};
 pub use step::{reserve_step, step_reserved};
-pub use stream_filters::{AnyFilter, FilterKind, Mode, Step};
+pub use stream_filters::{AnyFilter, FilterKind, Mode, Step, StreamFilter};

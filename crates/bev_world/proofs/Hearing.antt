@@ -10,7 +10,7 @@ use Rattle.std.proofs.lemmas.Option.{none-some}
 use Rattle.ev_types.specs.declared.why.Why.{Why}
 use Rattle.deferred_cb.specs.DueCalls.{Call}
 use Rattle.bev_world.specs.Heard.{seat, heard_by, heard_of, Hears, HeardAll, HeardShort}
-use Rattle.bev_world.specs.Runs.{Served, Called, Took, TookAll, RanAll, RanShort, is_started, taken_out, told_more}
+use Rattle.bev_world.specs.Runs.{Did, Served, Called, Took, TookAll, RanAll, RanShort, is_started, taken_out, told_more}
 use Rattle.bev_world.specs.WorldValue.{is_live}
 
 -- as many slots for those in service as for those taken out for good
@@ -30,7 +30,7 @@ told-then : (t : Option (List Why)) (xs ys : List Why) → told_more (told_more 
 told-then None xs ys = refl
 told-then (Some t) xs ys = ap Some (append_assoc t xs ys)
 
-module _ {H : Type 0} (heard : H → Option (List Why)) where
+module _ {H : Type 0} (heard : H → Option (List Why)) (did : Did H) where
   hears-none : (o : Option H) → Hears heard o o []
   hears-none None = refl
   hears-none (Some h) = told-none (heard h)
@@ -41,7 +41,7 @@ module _ {H : Type 0} (heard : H → Option (List Why)) where
   hears-then (Some x) (Some y) None xs ys p q = absurd q
   hears-then (Some x) (Some y) (Some z) xs ys p q = q ∙ ap (λ t. told_more t ys) p ∙ told-then (heard x) xs ys
 
-  module _ (ok : Bool) (call : Call) (s new : Served H) (kept : IsKept s) (called : Called heard ok call s new) where
+  module _ (ok : Bool) (call : Call) (s new : Served H) (kept : IsKept s) (called : Called heard did ok call s new) where
     there : call.0 < length s.serving
     there = some-within s.serving call.0 called.was called.there
 
@@ -82,7 +82,7 @@ module _ {H : Type 0} (heard : H → Option (List Why)) where
         one true = refl
         one false = get_or-set_other s.retired call.0 n (Some called.box) None h
 
-  hears-called : (call : Call) (s new : Served H) → IsKept s → Called heard true call s new → (n : ℕ) →
+  hears-called : (call : Call) (s new : Served H) → IsKept s → Called heard did true call s new → (n : ℕ) →
       Hears heard (seat s n) (seat new n) (heard_by n (call, true))
   hears-called call s new kept called n = elim (eqb_tells call.0 n) [
     | inl k ↦ subst (λ z. Hears heard (seat s z) (seat new z) (if nat_eq call.0 z then call.1 ∷ [] else [])) k.1
@@ -96,17 +96,17 @@ module _ {H : Type 0} (heard : H → Option (List Why)) where
   ]
 
   module _ (call : Call) (s new : Served H) (kept : IsKept s) (n : ℕ) where
-    hears-done : (b : Bool) (rest : List Call) → MatchBool b (Called heard true call (taken_out s rest) new) (new ≡ taken_out s rest) →
+    hears-done : (b : Bool) (rest : List Call) → MatchBool b (Called heard did true call (taken_out s rest) new) (new ≡ taken_out s rest) →
         IsKept new × Hears heard (seat s n) (seat new n) (heard_by n (call, b))
     hears-done true rest called = (called-kept true call (taken_out s rest) new kept called, hears-called call (taken_out s rest) new kept called n)
     hears-done false rest e = subst (λ z. IsKept z × Hears heard (seat s n) (seat z n) []) (sym e) (kept, hears-none (seat s n))
 
-    hears-took : (b : Bool) → b ≡ is_started s call → Took heard call s new →
+    hears-took : (b : Bool) → b ≡ is_started s call → Took heard did call s new →
         IsKept new × Hears heard (seat s n) (seat new n) (heard_by n (call, b))
     hears-took b e took = subst (λ z. IsKept new × Hears heard (seat s n) (seat new n) (heard_by n (call, z))) (sym e)
         (hears-done (is_started s call) took.rest took.done)
 
-  hears-all : (calls : List (Call × Bool)) (s new : Served H) → IsKept s → TookAll heard calls s new → (n : ℕ) →
+  hears-all : (calls : List (Call × Bool)) (s new : Served H) → IsKept s → TookAll heard did calls s new → (n : ℕ) →
       IsKept new × Hears heard (seat s n) (seat new n) (heard_of n calls)
   hears-all [] s new kept e n = subst (λ z. IsKept z × Hears heard (seat s n) (seat z n) []) (sym e) (kept, hears-none (seat s n))
   hears-all (c ∷ cs) s new kept all n =
@@ -114,13 +114,13 @@ module _ {H : Type 0} (heard : H → Option (List Why)) where
       let rest = hears-all cs all.0 new one.0 all.3 n in
       (rest.0, hears-then (seat s n) (seat all.0 n) (seat new n) (heard_by n c) (heard_of n cs) one.1 rest.1)
 
-  pub heard-all : (n : ℕ) (s new : Served H) → IsKept s → RanAll heard n s new → HeardAll heard n s new
+  pub heard-all : (n : ℕ) (s new : Served H) → IsKept s → RanAll heard did n s new → HeardAll heard did n s new
   heard-all n s new kept ran = record {
     ran = ran;
     hears = λ number. (hears-all ran.calls _ new kept ran.took number).1;
   }
 
-  pub heard-short : (s new : Served H) → IsKept s → RanShort heard s new → HeardShort heard s new
+  pub heard-short : (s new : Served H) → IsKept s → RanShort heard did s new → HeardShort heard did s new
   heard-short s new kept ran = record {
     ran = ran;
     hears = λ number h.

@@ -135,6 +135,7 @@ fn call_box(
 ) -> Result<(), NoMemory>
     requires live { is_live world.old id.0 ≡ true }
     ensures went { Went world.old world.new }
+    ensures did { may_do call.old id.0 why world.old world.new }
     ensures heard { OnOk result (heard call.new ≡ told_more (heard call.old) (why ∷ [])) }
 {
     call.call(world, id, why)
@@ -145,7 +146,7 @@ fn start(world: &mut World, roster: &mut Roster, id: BevId, why: Why) -> Result<
     requires live { is_live world.old id.0 ≡ true }
     requires there { has_box roster.old.serving.items id.0 ≡ true }
     requires kept { IsLevel roster.old }
-    ensures called { Called (λ b. heard b) (is_ok result) (id.0, why) (served world.old roster.old) (served world.new roster.new) }
+    ensures called { Called (λ b. heard b) (λ b. may_do b) (is_ok result) (id.0, why) (served world.old roster.old) (served world.new roster.new) }
     ensures kept { IsLevel roster.new }
 {
     let mut call = take_box(&mut roster.serving, id);
@@ -165,9 +166,9 @@ fn serve_call(
 ) -> Result<bool, WorldFault>
     requires kept { IsLevel roster.old }
     ensures started { IfOk result (λ started. started ≡ is_started (served world.old roster.old) (owner, why)) }
-    ensures done { OnOk result (Done (λ b. heard b) (owner, why) (served world.old roster.old) (served world.new roster.new)) }
+    ensures done { OnOk result (Done (λ b. heard b) (λ b. may_do b) (owner, why) (served world.old roster.old) (served world.new roster.new)) }
     ensures fault { IfErr result (λ fault. fault ≡ Memory) }
-    ensures short { OnErr result (DoneShort (λ b. heard b) (owner, why) (served world.old roster.old) (served world.new roster.new)) }
+    ensures short { OnErr result (DoneShort (λ b. heard b) (λ b. may_do b) (owner, why) (served world.old roster.old) (served world.new roster.new)) }
     ensures kept { IsLevel roster.new }
 {
     let Some(id) = world.live_id(owner) else {
@@ -193,8 +194,8 @@ fn serve_call(
 pub fn run_due(world: &mut World, roster: &mut Roster) -> Result<u32, WorldFault>
     requires kept { IsLevel roster.old }
     requires idle { IsIdle world.old }
-    ensures ran { Ran (λ b. heard b) result (served world.old roster.old) (served world.new roster.new) }
-    ensures hooked { HeardRun (λ b. heard b) result (served world.old roster.old) (served world.new roster.new) }
+    ensures ran { Ran (λ b. heard b) (λ b. may_do b) result (served world.old roster.old) (served world.new roster.new) }
+    ensures hooked { HeardRun (λ b. heard b) (λ b. may_do b) result (served world.old roster.old) (served world.new roster.new) }
     ensures kept { IsLevel roster.new }
     ensures idle { IsIdle world.new }
     ensures known { length world.old.slots ≤ length world.new.slots }

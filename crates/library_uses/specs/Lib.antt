@@ -1,2 +1,3 @@
+pub mod NoZeros
 pub mod OwnPort
 pub mod Turning

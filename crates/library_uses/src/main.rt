@@ -13,6 +13,7 @@ mod limited_links;
 mod limits;
 mod lines;
 mod numbers;
+mod own_filter;
 mod own_port;
 mod queues;
 
@@ -29,6 +30,7 @@ fn main(rt: HostRuntime) -> anyhow::Result<()> {
     lines::lines_that_came_in_pieces(&rt, alloc)?;
     bufferevents::back_pressure(&rt, alloc)?;
     filters::line_ends(&rt, alloc)?;
+    own_filter::without_zeros(&rt, alloc)?;
     due::joined_reasons(&rt, alloc)?;
     callbacks::callbacks_that_free(&rt, alloc)?;
     numbers::busy_jobs(&rt, alloc)?;

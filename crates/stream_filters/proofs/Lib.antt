@@ -5,3 +5,8 @@ pub mod AlongLemmas
 pub mod GoOnLemmas
 pub mod InPlaceLemmas
 pub mod ShiftLemmas
+pub mod HouseSteps
+pub mod StreamShift
+pub mod DigitLemmas
+pub mod PairLemmas
+pub mod BytewiseLemmas

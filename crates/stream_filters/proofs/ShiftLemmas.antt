@@ -9,7 +9,7 @@ use Rattle.filter_model.specs.FilterRun.{Ran, goes_on, run, adds, is_bad_byte}
 use Rattle.filter_model.specs.FilterStep.{count_of, after_bytes, Stepped, ending, stepped, most_made}
 use Rattle.stream_filters.specs.StepAnswers.{most_by_step}
 
-le-shift : (limit n m : ℕ) → nat_le (limit - n) m ≡ nat_le limit (n + m)
+pub le-shift : (limit n m : ℕ) → nat_le (limit - n) m ≡ nat_le limit (n + m)
 le-shift limit n m = by_test (nat_le (limit - n) m) (nat_le limit (n + m)) refl refl
   where
     by_test : (b c : Bool) → nat_le (limit - n) m ≡ b → nat_le limit (n + m) ≡ c → b ≡ c
@@ -18,7 +18,7 @@ le-shift limit n m = by_test (nat_le (limit - n) m) (nat_le limit (n + m)) refl 
     by_test true false e f = absurd (grind (arith, nat_tests, e, f))
     by_test false true e f = absurd (grind (arith, nat_tests, e, f))
 
-lt-shift : (limit n m : ℕ) → nat_lt m (limit - n) ≡ nat_lt (n + m) limit
+pub lt-shift : (limit n m : ℕ) → nat_lt m (limit - n) ≡ nat_lt (n + m) limit
 lt-shift limit n m = by_test (nat_lt m (limit - n)) (nat_lt (n + m) limit) refl refl
   where
     by_test : (b c : Bool) → nat_lt m (limit - n) ≡ b → nat_lt (n + m) limit ≡ c → b ≡ c

@@ -1,3 +1,7 @@
 pub mod Knowledge
 pub mod StepAnswers
 pub mod Parts
+pub mod StreamSteps
+pub mod House
+pub mod HouseLaws
+pub mod Bytewise

@@ -1,7 +1,8 @@
 -- The parts in which the code makes a run.
-use Rattle.std.specs.Prelude.{◌≡◌, ℕ, ◌+◌, ◌≤◌, List, ◌++◌, length, take, drop, Option}
+use Rattle.std.specs.Prelude.{◌≡◌, ℕ, suc, ◌+◌, ◌≤◌, true, List, [], ◌∷◌, ◌++◌, length, take, drop, Option}
 use Rattle.std.specs.List.{last_or}
 use Rattle.ev_types.specs.declared.filter.FilterKind.{FilterKind}
+use Rattle.filter_model.specs.Filter.{is_hex, hex_in}
 use Rattle.filter_model.specs.FilterRun.{run, nothing_ran}
 use Rattle.filter_model.specs.FilterCuts.{joined}
 use Rattle.stream_filters.specs.declared.knowledge.Knowledge.{Knowledge}
@@ -16,6 +17,19 @@ pub record AppendsPart (k : FilterKind) (limit count : ℕ) (last : Option ℕ) 
       ≡ joined (record { used = used; made = made })
       (run k limit (length new) (count + used) (last_or last (take used src)) (drop used src))
   pub stops : used ≡ 0 → run k limit (length old) count last src ≡ nothing_ran
+
+-- so many pairs of hex digits in a row
+pub data ArePairs : ℕ → List ℕ → Type 0 where
+  no_pairs : ArePairs 0 []
+  pair : {m x y : ℕ} {xs : List ℕ} → is_hex x ≡ true → is_hex y ≡ true → ArePairs m xs → ArePairs (suc m) (x ∷ y ∷ xs)
+
+-- Pairs of digits at the front of src were read, and the bytes that they spell were appended, as far as the limit allows.
+pub record ReadsPairs (limit : ℕ) (src old new : List ℕ) (used : ℕ) : Type 0 where
+  pub pairs : ℕ
+  pub digits : ArePairs pairs (take used src)
+  pub within : used ≤ length src
+  pub below : length old + pairs ≤ limit
+  pub filled : new ≡ old ++ hex_in (take used src)
 
 -- a target that holds these bytes has room for what the run over src makes
 abbrev pub HasRoom : FilterKind → ℕ → ℕ → Option ℕ → List ℕ → List ℕ → ℕ → Type 0

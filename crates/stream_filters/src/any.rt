@@ -3,7 +3,9 @@ ghost use Rattle.std.specs.Prelude.{◌≡◌, ◌≤◌, ◌<◌, ◌+◌, ◌^
 ghost use Rattle.ev_types.specs.declared.filter.FilterKind.TheVariants as kind_of;
 ghost use Rattle.ev_types.specs.declared.filter.Mode.TheVariants as mode_of;
 ghost use Rattle.filter_model.specs.FilterStep.{begun, stepped};
-ghost use Rattle.stream_filters.specs.StepAnswers.{most_by_step, WasMade, AnswersInPlace, is_last, is_spent, says_spent};
+ghost use Rattle.stream_filters.specs.House.{MayHaveUsed, definition, reach};
+ghost use Rattle.stream_filters.specs.StepAnswers.{most_by_step, Answers, WasMade, AnswersInPlace, is_last, is_spent, says_spent};
+ghost use Rattle.stream_filters.specs.StreamSteps.{Steps};
 
 use crate::fault::FilterFault;
 use crate::knowledge::Knowledge;
@@ -35,7 +37,8 @@ impl Model for AnyFilter {
 impl AnyFilter {
     /// A filter of this kind that has used nothing. Takes no memory; the cost is constant.
     pub fn new(kind: FilterKind) -> AnyFilter
-        ensures { result ≡ begun kind }
+        ensures begun { result ≡ begun kind }
+        ensures unused { MayHaveUsed result [] }
     {
         AnyFilter {
             kind,
@@ -48,16 +51,6 @@ impl AnyFilter {
         ensures { result ≡ self.now.kind }
     {
         self.kind
-    }
-
-    /// A filter that has come as far as this one. Takes no memory; the cost is constant.
-    pub fn copied(&self) -> AnyFilter
-        ensures { result ≡ self.now }
-    {
-        AnyFilter {
-            kind: self.kind,
-            known: self.known,
-        }
     }
 
     /// The step of a filter that gives every byte as it is, where the target holds `held` bytes and the caller moves the
@@ -116,7 +109,16 @@ impl AnyFilter {
 }
 
 impl StreamFilter for AnyFilter {
-    ghost running = { λ f. f };
+    ghost use Rattle.stream_filters.specs.House.{MayHaveUsed, definition, reach};
+    ghost use Rattle.stream_filters.specs.HouseLaws.{house_is_lawful};
+
+    ghost filter = { definition };
+
+    ghost reached = { reach };
+
+    ghost known = { MayHaveUsed };
+
+    ghost lawful = { house_is_lawful };
 
     fn used(&self) -> u64 {
         self.known.used
@@ -126,13 +128,25 @@ impl StreamFilter for AnyFilter {
         self.known.finished
     }
 
+    fn copied(&self) -> AnyFilter {
+        AnyFilter {
+            kind: self.kind,
+            known: self.known,
+        }
+    }
+
     fn step(
         &mut self,
         src: &[u8],
         dst: &mut Vec<u8>,
         limit: usize,
         mode: Mode,
-    ) -> Result<Step, FilterFault> {
+    ) -> Result<Step, FilterFault>
+        requires open { self.old.finished ≡ true → (src.now ≡ []) × (mode ≡ mode_of.Finished) }
+        ensures answers { Answers result (stepped self.old (is_last mode) limit (length dst.old.items) src.now) self.old self.new dst.old.items dst.new.items }
+        ensures spent { says_spent result ≡ is_spent self.old (length src.now) }
+        ensures steps { Steps definition reach MayHaveUsed mode limit src.now result self.old self.new dst.old.items dst.new.items }
+    {
         step_by(self.kind, &mut self.known, src, dst, limit, mode)
     }
 }

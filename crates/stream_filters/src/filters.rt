@@ -1,7 +1,11 @@
 // The five filters, each a type of its own. All stand on one step, by their kind.
-ghost use Rattle.std.specs.Prelude.{◌≡◌};
-ghost use Rattle.filter_model.specs.FilterStep.{begun};
+ghost use Rattle.std.specs.Prelude.{◌≡◌, true, [], length};
 ghost use Rattle.ev_types.specs.declared.filter.FilterKind.TheVariants as kind_of;
+ghost use Rattle.ev_types.specs.declared.filter.Mode.TheVariants as mode_of;
+ghost use Rattle.filter_model.specs.FilterStep.{begun, stepped};
+ghost use Rattle.stream_filters.specs.House.{MayHaveUsed, definition, reach};
+ghost use Rattle.stream_filters.specs.StepAnswers.{Answers, is_last, is_spent, says_spent};
+ghost use Rattle.stream_filters.specs.StreamSteps.{Steps};
 
 use crate::fault::FilterFault;
 use crate::knowledge::Knowledge;
@@ -31,7 +35,8 @@ impl Model for NoFilter {
 impl NoFilter {
     /// A filter that has used nothing. Takes no memory; the cost is constant.
     pub fn new() -> NoFilter
-        ensures { result ≡ begun kind_of.None }
+        ensures begun { result ≡ begun kind_of.None }
+        ensures unused { MayHaveUsed result [] }
     {
         NoFilter {
             known: Knowledge::new(),
@@ -40,7 +45,16 @@ impl NoFilter {
 }
 
 impl StreamFilter for NoFilter {
-    ghost running = { λ f. f };
+    ghost use Rattle.stream_filters.specs.House.{MayHaveUsed, definition, reach};
+    ghost use Rattle.stream_filters.specs.HouseLaws.{house_is_lawful};
+
+    ghost filter = { definition };
+
+    ghost reached = { reach };
+
+    ghost known = { MayHaveUsed };
+
+    ghost lawful = { house_is_lawful };
 
     fn used(&self) -> u64 {
         self.known.used
@@ -50,13 +64,22 @@ impl StreamFilter for NoFilter {
         self.known.finished
     }
 
+    fn copied(&self) -> NoFilter {
+        NoFilter { known: self.known }
+    }
+
     fn step(
         &mut self,
         src: &[u8],
         dst: &mut Vec<u8>,
         limit: usize,
         mode: Mode,
-    ) -> Result<Step, FilterFault> {
+    ) -> Result<Step, FilterFault>
+        requires open { self.old.finished ≡ true → (src.now ≡ []) × (mode ≡ mode_of.Finished) }
+        ensures answers { Answers result (stepped self.old (is_last mode) limit (length dst.old.items) src.now) self.old self.new dst.old.items dst.new.items }
+        ensures spent { says_spent result ≡ is_spent self.old (length src.now) }
+        ensures steps { Steps definition reach MayHaveUsed mode limit src.now result self.old self.new dst.old.items dst.new.items }
+    {
         step_by(FilterKind::None, &mut self.known, src, dst, limit, mode)
     }
 }
@@ -82,7 +105,8 @@ impl Model for ToCrlf {
 impl ToCrlf {
     /// A filter that has used nothing. Takes no memory; the cost is constant.
     pub fn new() -> ToCrlf
-        ensures { result ≡ begun kind_of.ToCrlf }
+        ensures begun { result ≡ begun kind_of.ToCrlf }
+        ensures unused { MayHaveUsed result [] }
     {
         ToCrlf {
             known: Knowledge::new(),
@@ -91,7 +115,16 @@ impl ToCrlf {
 }
 
 impl StreamFilter for ToCrlf {
-    ghost running = { λ f. f };
+    ghost use Rattle.stream_filters.specs.House.{MayHaveUsed, definition, reach};
+    ghost use Rattle.stream_filters.specs.HouseLaws.{house_is_lawful};
+
+    ghost filter = { definition };
+
+    ghost reached = { reach };
+
+    ghost known = { MayHaveUsed };
+
+    ghost lawful = { house_is_lawful };
 
     fn used(&self) -> u64 {
         self.known.used
@@ -101,13 +134,22 @@ impl StreamFilter for ToCrlf {
         self.known.finished
     }
 
+    fn copied(&self) -> ToCrlf {
+        ToCrlf { known: self.known }
+    }
+
     fn step(
         &mut self,
         src: &[u8],
         dst: &mut Vec<u8>,
         limit: usize,
         mode: Mode,
-    ) -> Result<Step, FilterFault> {
+    ) -> Result<Step, FilterFault>
+        requires open { self.old.finished ≡ true → (src.now ≡ []) × (mode ≡ mode_of.Finished) }
+        ensures answers { Answers result (stepped self.old (is_last mode) limit (length dst.old.items) src.now) self.old self.new dst.old.items dst.new.items }
+        ensures spent { says_spent result ≡ is_spent self.old (length src.now) }
+        ensures steps { Steps definition reach MayHaveUsed mode limit src.now result self.old self.new dst.old.items dst.new.items }
+    {
         step_by(FilterKind::ToCrlf, &mut self.known, src, dst, limit, mode)
     }
 }
@@ -133,7 +175,8 @@ impl Model for ToLf {
 impl ToLf {
     /// A filter that has used nothing. Takes no memory; the cost is constant.
     pub fn new() -> ToLf
-        ensures { result ≡ begun kind_of.ToLf }
+        ensures begun { result ≡ begun kind_of.ToLf }
+        ensures unused { MayHaveUsed result [] }
     {
         ToLf {
             known: Knowledge::new(),
@@ -142,7 +185,16 @@ impl ToLf {
 }
 
 impl StreamFilter for ToLf {
-    ghost running = { λ f. f };
+    ghost use Rattle.stream_filters.specs.House.{MayHaveUsed, definition, reach};
+    ghost use Rattle.stream_filters.specs.HouseLaws.{house_is_lawful};
+
+    ghost filter = { definition };
+
+    ghost reached = { reach };
+
+    ghost known = { MayHaveUsed };
+
+    ghost lawful = { house_is_lawful };
 
     fn used(&self) -> u64 {
         self.known.used
@@ -152,13 +204,22 @@ impl StreamFilter for ToLf {
         self.known.finished
     }
 
+    fn copied(&self) -> ToLf {
+        ToLf { known: self.known }
+    }
+
     fn step(
         &mut self,
         src: &[u8],
         dst: &mut Vec<u8>,
         limit: usize,
         mode: Mode,
-    ) -> Result<Step, FilterFault> {
+    ) -> Result<Step, FilterFault>
+        requires open { self.old.finished ≡ true → (src.now ≡ []) × (mode ≡ mode_of.Finished) }
+        ensures answers { Answers result (stepped self.old (is_last mode) limit (length dst.old.items) src.now) self.old self.new dst.old.items dst.new.items }
+        ensures spent { says_spent result ≡ is_spent self.old (length src.now) }
+        ensures steps { Steps definition reach MayHaveUsed mode limit src.now result self.old self.new dst.old.items dst.new.items }
+    {
         step_by(FilterKind::ToLf, &mut self.known, src, dst, limit, mode)
     }
 }
@@ -184,7 +245,8 @@ impl Model for HexOut {
 impl HexOut {
     /// A filter that has used nothing. Takes no memory; the cost is constant.
     pub fn new() -> HexOut
-        ensures { result ≡ begun kind_of.HexOut }
+        ensures begun { result ≡ begun kind_of.HexOut }
+        ensures unused { MayHaveUsed result [] }
     {
         HexOut {
             known: Knowledge::new(),
@@ -193,7 +255,16 @@ impl HexOut {
 }
 
 impl StreamFilter for HexOut {
-    ghost running = { λ f. f };
+    ghost use Rattle.stream_filters.specs.House.{MayHaveUsed, definition, reach};
+    ghost use Rattle.stream_filters.specs.HouseLaws.{house_is_lawful};
+
+    ghost filter = { definition };
+
+    ghost reached = { reach };
+
+    ghost known = { MayHaveUsed };
+
+    ghost lawful = { house_is_lawful };
 
     fn used(&self) -> u64 {
         self.known.used
@@ -203,13 +274,22 @@ impl StreamFilter for HexOut {
         self.known.finished
     }
 
+    fn copied(&self) -> HexOut {
+        HexOut { known: self.known }
+    }
+
     fn step(
         &mut self,
         src: &[u8],
         dst: &mut Vec<u8>,
         limit: usize,
         mode: Mode,
-    ) -> Result<Step, FilterFault> {
+    ) -> Result<Step, FilterFault>
+        requires open { self.old.finished ≡ true → (src.now ≡ []) × (mode ≡ mode_of.Finished) }
+        ensures answers { Answers result (stepped self.old (is_last mode) limit (length dst.old.items) src.now) self.old self.new dst.old.items dst.new.items }
+        ensures spent { says_spent result ≡ is_spent self.old (length src.now) }
+        ensures steps { Steps definition reach MayHaveUsed mode limit src.now result self.old self.new dst.old.items dst.new.items }
+    {
         step_by(FilterKind::HexOut, &mut self.known, src, dst, limit, mode)
     }
 }
@@ -238,7 +318,8 @@ impl Model for HexIn {
 impl HexIn {
     /// A filter that has used nothing. Takes no memory; the cost is constant.
     pub fn new() -> HexIn
-        ensures { result ≡ begun kind_of.HexIn }
+        ensures begun { result ≡ begun kind_of.HexIn }
+        ensures unused { MayHaveUsed result [] }
     {
         HexIn {
             known: Knowledge::new(),
@@ -247,7 +328,16 @@ impl HexIn {
 }
 
 impl StreamFilter for HexIn {
-    ghost running = { λ f. f };
+    ghost use Rattle.stream_filters.specs.House.{MayHaveUsed, definition, reach};
+    ghost use Rattle.stream_filters.specs.HouseLaws.{house_is_lawful};
+
+    ghost filter = { definition };
+
+    ghost reached = { reach };
+
+    ghost known = { MayHaveUsed };
+
+    ghost lawful = { house_is_lawful };
 
     fn used(&self) -> u64 {
         self.known.used
@@ -257,13 +347,22 @@ impl StreamFilter for HexIn {
         self.known.finished
     }
 
+    fn copied(&self) -> HexIn {
+        HexIn { known: self.known }
+    }
+
     fn step(
         &mut self,
         src: &[u8],
         dst: &mut Vec<u8>,
         limit: usize,
         mode: Mode,
-    ) -> Result<Step, FilterFault> {
+    ) -> Result<Step, FilterFault>
+        requires open { self.old.finished ≡ true → (src.now ≡ []) × (mode ≡ mode_of.Finished) }
+        ensures answers { Answers result (stepped self.old (is_last mode) limit (length dst.old.items) src.now) self.old self.new dst.old.items dst.new.items }
+        ensures spent { says_spent result ≡ is_spent self.old (length src.now) }
+        ensures steps { Steps definition reach MayHaveUsed mode limit src.now result self.old self.new dst.old.items dst.new.items }
+    {
         step_by(FilterKind::HexIn, &mut self.known, src, dst, limit, mode)
     }
 }

@@ -1,13 +1,13 @@
 // The parts in which a run is made: each uses a first piece of the source and appends what that makes. A target is below
 // its limit, and has the room.
-ghost use Rattle.std.specs.Prelude.{◌≡◌, ◌≢◌, ◌≤◌, ◌<◌, ◌+◌, ◌-◌, ◌*◌, ◌/◌, ◌++◌, [], ⊤, true, Some, length, take, drop, min, All};
+ghost use Rattle.std.specs.Prelude.{◌≡◌, ◌≢◌, ◌≤◌, ◌<◌, ◌+◌, ◌-◌, ◌*◌, ◌/◌, ◌%◌, ◌++◌, ◌∷◌, [], ⊤, true, Some, length, take, drop, min, All};
 ghost use Rattle.std.specs.Prelude.{slice_index, unwrap_or, vec_len, vec_capacity};
 ghost use Rattle.std.specs.List.{last_or};
 ghost use Rattle.ev_types.specs.declared.filter.FilterKind.TheVariants as kind_of;
 ghost use Rattle.filter_model.specs.Filter.{hex_out, hex_value};
 ghost use Rattle.filter_model.specs.FilterRun.{adds};
 ghost use Rattle.stream_filters.specs.Knowledge.{IsDigitLast};
-ghost use Rattle.stream_filters.specs.Parts.{AppendsPart, HasRoom};
+ghost use Rattle.stream_filters.specs.Parts.{AppendsPart, HasRoom, ReadsPairs};
 
 use crate::digits::{digit_value, hex_digit};
 use crate::knowledge::Knowledge;
@@ -26,6 +26,16 @@ pub(crate) fn put(dst: &mut Vec<u8>, bytes: &[u8])
     ensures capacity { vec_capacity dst.old ≤ vec_capacity dst.new }
 {
     dst.extend_from_slice(bytes).unwrap();
+}
+
+/// Appends a byte, in room that was made before.
+fn put_byte(dst: &mut Vec<u8>, byte: u8)
+    requires { vec_len dst.old < vec_capacity dst.old }
+    ensures items { dst.new.items ≡ dst.old.items ++ byte ∷ [] }
+    ensures len { vec_len dst.new ≡ vec_len dst.old + 1 }
+    ensures capacity { vec_capacity dst.old ≤ vec_capacity dst.new }
+{
+    dst.push(byte).unwrap();
 }
 
 /// How many bytes stand before the first that is `stop`, or all.
@@ -126,7 +136,8 @@ fn hex_out_part(src: &[u8], dst: &mut Vec<u8>, limit: usize) -> usize
 {
     let used = src.len().min((limit - dst.len()).div_ceil(2));
     for byte in src.split_at(used).0 {
-        put(dst, &[hex_digit(byte / 16), hex_digit(byte % 16)]);
+        put_byte(dst, hex_digit(byte / 16));
+        put_byte(dst, hex_digit(byte % 16));
     }
     used
 }
@@ -143,8 +154,30 @@ fn held_value(last: Option<u8>) -> u8
     digit_value(byte).unwrap()
 }
 
+/// Pairs of digits as far as the limit allows, up to the first byte that is no digit. It answers how many digits.
+fn hex_pairs(known: &Knowledge, src: &[u8], dst: &mut Vec<u8>, limit: usize) -> usize
+    requires even { known.now.used % 2 ≡ 0 }
+    requires below { vec_len dst.old < limit }
+    requires room { HasRoom kind_of.HexIn limit known.now.used known.now.last src.now dst.old.items (vec_capacity dst.old) }
+    ensures pairs { ReadsPairs limit src.now dst.old.items dst.new.items result }
+    ensures capacity { vec_capacity dst.old ≤ vec_capacity dst.new }
+{
+    let mut at = 0;
+    while at + 1 < src.len() && dst.len() < limit {
+        let Some(high) = digit_value(src[at]) else {
+            return at;
+        };
+        let Some(low) = digit_value(src[at + 1]) else {
+            return at;
+        };
+        put_byte(dst, 16 * high + low);
+        at += 2;
+    }
+    at
+}
+
 /// One digit, or nothing where the next byte is none.
-fn hex_in_part(known: &Knowledge, src: &[u8], dst: &mut Vec<u8>, limit: usize) -> usize
+fn hex_digit_part(known: &Knowledge, src: &[u8], dst: &mut Vec<u8>, limit: usize) -> usize
     requires some { 0 < length src.now }
     requires below { vec_len dst.old < limit }
     requires digit { IsDigitLast kind_of.HexIn known.now.last }
@@ -157,9 +190,28 @@ fn hex_in_part(known: &Knowledge, src: &[u8], dst: &mut Vec<u8>, limit: usize) -
         return 0;
     };
     if known.used % 2 == 1 {
-        put(dst, &[16 * held_value(known.last) + low]);
+        put_byte(dst, 16 * held_value(known.last) + low);
     }
     1
+}
+
+/// Pairs of digits, or one digit, or nothing where the next byte is none. A digit that is held is not forgotten: behind it comes one.
+fn hex_in_part(known: &Knowledge, src: &[u8], dst: &mut Vec<u8>, limit: usize) -> usize
+    requires some { 0 < length src.now }
+    requires below { vec_len dst.old < limit }
+    requires digit { IsDigitLast kind_of.HexIn known.now.last }
+    requires room { HasRoom kind_of.HexIn limit known.now.used known.now.last src.now dst.old.items (vec_capacity dst.old) }
+    ensures part { AppendsPart kind_of.HexIn limit known.now.used known.now.last src.now dst.old.items dst.new.items result }
+    ensures digit { IsDigitLast kind_of.HexIn (last_or known.now.last (take result src.now)) }
+    ensures capacity { vec_capacity dst.old ≤ vec_capacity dst.new }
+{
+    if known.used % 2 == 0 {
+        let used = hex_pairs(known, src, dst, limit);
+        if used > 0 {
+            return used;
+        }
+    }
+    hex_digit_part(known, src, dst, limit)
 }
 
 /// The next part of a run. It uses nothing only where the next byte is bad.

@@ -1,31 +1,15 @@
-use Rattle.std.proofs.Common.{◌+◌, ◌*◌, ◌%◌, ◌++◌, ◌∷◌, [], if◌then◌else◌, ◌∙◌, sym, refl, eq-eqb, arith}
-use Rattle.std.specs.Prelude.{slice_index, unwrap_or}
-use Rattle.std.proofs.lemmas.List.{append-nil}
-use Rattle.ev_types.specs.declared.filter.FilterKind.TheVariants as kind
-use Rattle.filter_model.specs.Filter.{hex_value}
-use Rattle.stream_filters.proofs.PlainLemmas.{differs}
-use Rattle.stream_filters.proofs.PartLemmas.{byte-part, digit-cases}
+use Rattle.std.proofs.Common.{arith}
+use Rattle.stream_filters.proofs.PairLemmas.{pairs-part, pairs-last}
 use Rattle.stream_filters.proofs.parts.hex_in_part.Goals as goal
 
-pub returns-then-known-eq1-clause-part : goal.returns-then-known-eq1-clause-part
-returns-then-known-eq1-clause-part c =
-    let x = slice_index c.args.src.now 0 in
+pub returns-then-used-gt0-clause-part : goal.returns-then-used-gt0-clause-part
+returns-then-used-gt0-clause-part c =
     let known = c.args.known.now in
-    let digit = digit-cases x c.in-Some.low c.in-Some.ensures.value in
-    let odd = eq-eqb (known.used % 2) 1 c.if-known-eq1.true in
-    let high = c.held_value.ensures.value in
-    let filled = c.put.ensures.items ∙ (λ i. c.args.dst.now.items ++ (16 * high i + digit.value i) ∷ [])
-    ∙ (λ i. c.args.dst.now.items ++ (if sym odd i then (16 * hex_value (unwrap_or known.last 0) + hex_value x) ∷ [] else [])) in
-    byte-part kind.HexIn c.args.limit known.used known.last c.args.src.now c.args.dst.now.items _ x c.requires.some refl
-    (omega arith) digit.good filled
+    pairs-part c.args.limit known.used known.last c.args.src.now c.args.dst.now.items c.if-known-eq0.true
+    c.hex_pairs-used.new.dst.items c.hex_pairs-used.result c.hex_pairs-used.ensures.pairs (omega arith)
 
-pub returns-else-known-eq1-clause-part : goal.returns-else-known-eq1-clause-part
-returns-else-known-eq1-clause-part c =
-    let x = slice_index c.args.src.now 0 in
+pub returns-then-used-gt0-clause-digit : goal.returns-then-used-gt0-clause-digit
+returns-then-used-gt0-clause-digit c =
     let known = c.args.known.now in
-    let digit = digit-cases x c.in-Some.low c.in-Some.ensures.value in
-    let odd = differs (known.used % 2) 1 c.if-known-eq1.false in
-    let filled = sym (append-nil c.args.dst.now.items)
-    ∙ (λ i. c.args.dst.now.items ++ (if sym odd i then (16 * hex_value (unwrap_or known.last 0) + hex_value x) ∷ [] else [])) in
-    byte-part kind.HexIn c.args.limit known.used known.last c.args.src.now c.args.dst.now.items _ x c.requires.some refl
-    (omega arith) digit.good filled
+    pairs-last c.args.limit known.used known.last c.args.src.now c.args.dst.now.items c.if-known-eq0.true
+    c.hex_pairs-used.new.dst.items c.hex_pairs-used.result c.hex_pairs-used.ensures.pairs c.requires.digit

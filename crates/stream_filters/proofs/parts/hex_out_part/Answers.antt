@@ -9,11 +9,11 @@ loop-byte-preserved c =
     let i = c.loop-byte.byte-index in
     let more = hex_out-more bytes i c.loop-byte-test.true in
     let one = slice_index bytes i in
-    let digits : (c.hex_digit.result ∷ c.hex_digit-in-loop-byte.result ∷ []) ≡ (hex_digit (one / 16) ∷ hex_digit (one % 16) ∷ []) =
-    λ j. c.hex_digit.ensures j ∷ c.hex_digit-in-loop-byte.ensures j ∷ [] in
     let items =
-    c.put.ensures.items
-    ∙ (λ j. c.loop-byte.invariant.0 j ++ digits j)
+    c.put_byte-in-loop-byte.ensures.items
+    ∙ (λ j. c.put_byte.ensures.items j ++ c.hex_digit-in-loop-byte.result ∷ [])
+    ∙ (λ j. (c.loop-byte.invariant.0 j ++ c.hex_digit.ensures j ∷ []) ++ c.hex_digit-in-loop-byte.ensures j ∷ [])
+    ∙ append_assoc (c.args.dst.now.items ++ hex_out (take i bytes)) (hex_digit (one / 16) ∷ []) (hex_digit (one % 16) ∷ [])
     ∙ append_assoc c.args.dst.now.items (hex_out (take i bytes)) (hex_digit (one / 16) ∷ hex_digit (one % 16) ∷ [])
     ∙ (λ j. c.args.dst.now.items ++ sym more j) in
     (items, omega arith, omega arith)

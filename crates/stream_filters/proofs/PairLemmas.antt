@@ -1,0 +1,177 @@
+-- Pairs of hex digits in a row.
+use Rattle.std.proofs.Common.{◌≡◌, ℕ, zero, suc, ◌+◌, ◌*◌, ◌%◌, ◌<◌, ◌≤◌, Bool, true, false, not, ◌==◌, ◌&&◌, if◌then◌else◌, List, [], ◌∷◌, ◌++◌}
+use Rattle.std.proofs.Common.{length, take, drop, Option, Some, None, refl, sym, ◌∙◌, ap, subst, arith, length-append, append_assoc, append-nil}
+use Rattle.std.specs.Prelude.{slice_index, unwrap_or}
+use Rattle.std.specs.List.{last_or}
+use Rattle.std.proofs.lemmas.Bool.Decides.{nat_tests}
+use Rattle.std.proofs.lemmas.List.{length-take-le, take_more, take-append-drop}
+use Rattle.ev_types.specs.declared.filter.FilterKind.TheVariants as kind
+use Rattle.filter_model.specs.Filter.{hex_in, is_hex, hex_value}
+use Rattle.filter_model.specs.FilterRun.{Ran, run, adds}
+use Rattle.filter_model.specs.FilterCuts.{joined}
+use Rattle.stream_filters.specs.Knowledge.{IsDigitLast}
+use Rattle.stream_filters.specs.Parts.{AppendsPart, ArePairs, ReadsPairs, HasRoom}
+use Rattle.stream_filters.proofs.PartLemmas.{run-byte}
+
+abbrev value_of : ℕ → ℕ → ℕ
+value_of x y = 16 * hex_value x + hex_value y
+
+hex_in-pair : (x y : ℕ) (xs : List ℕ) → is_hex x ≡ true → is_hex y ≡ true → hex_in (x ∷ y ∷ xs) ≡ value_of x y ∷ hex_in xs
+hex_in-pair x y xs a b = λ i. if a i && b i then value_of x y ∷ hex_in xs else []
+
+length-pairs : {m : ℕ} {xs : List ℕ} → ArePairs m xs → length xs ≡ 2 * m
+length-pairs ArePairs.no_pairs = refl
+length-pairs (ArePairs.pair a b rest) = let e = length-pairs rest in omega (arith, e)
+
+length-hex_in : {m : ℕ} {xs : List ℕ} → ArePairs m xs → length (hex_in xs) ≡ m
+length-hex_in ArePairs.no_pairs = refl
+length-hex_in (ArePairs.pair {x = x} {y = y} {xs = xs} a b rest) = ap length (hex_in-pair x y xs a b) ∙ ap suc (length-hex_in rest)
+
+pairs-push : {m : ℕ} {xs : List ℕ} (x y : ℕ) → ArePairs m xs → is_hex x ≡ true → is_hex y ≡ true → ArePairs (suc m) (xs ++ x ∷ y ∷ [])
+pairs-push x y ArePairs.no_pairs a b = ArePairs.pair a b ArePairs.no_pairs
+pairs-push x y (ArePairs.pair c d rest) a b = ArePairs.pair c d (pairs-push x y rest a b)
+
+hex_in-push : {m : ℕ} {xs : List ℕ} (x y : ℕ) → ArePairs m xs → is_hex x ≡ true → is_hex y ≡ true →
+    hex_in (xs ++ x ∷ y ∷ []) ≡ hex_in xs ++ value_of x y ∷ []
+hex_in-push x y ArePairs.no_pairs a b = hex_in-pair x y [] a b
+hex_in-push x y (ArePairs.pair {x = p} {y = q} {xs = xs} c d rest) a b =
+    hex_in-pair p q (xs ++ x ∷ y ∷ []) c d ∙ ap (λ z. value_of p q ∷ z) (hex_in-push x y rest a b)
+    ∙ ap (λ z. z ++ value_of x y ∷ []) (sym (hex_in-pair p q xs c d))
+
+-- the last byte of pairs of digits is a digit
+last-pairs : {m : ℕ} {xs : List ℕ} (last : Option ℕ) → IsDigitLast kind.HexIn last → ArePairs m xs → IsDigitLast kind.HexIn (last_or last xs)
+last-pairs last h ArePairs.no_pairs = h
+last-pairs last h (ArePairs.pair {y = y} {xs = xs} a b rest) = last-pairs (Some y) (one y b) rest
+  where
+    one : (y : ℕ) → is_hex y ≡ true → IsDigitLast kind.HexIn (Some y)
+    one y b zero d lt = b
+    one y b (suc k) d lt = absurd (omega (arith, lt))
+
+-- a run from an even place on uses them, where the limit allows the bytes that they spell
+run-pairs : {m : ℕ} {xs : List ℕ} (limit n count : ℕ) (last : Option ℕ) (rest : List ℕ) → ArePairs m xs → n + m ≤ limit → count % 2 ≡ 0 →
+    run kind.HexIn limit n count last (xs ++ rest)
+    ≡ joined (record { used = length xs; made = hex_in xs }) (run kind.HexIn limit (n + m) (count + length xs) (last_or last xs) rest)
+run-pairs limit n count last rest ArePairs.no_pairs room even =
+    let a : n ≡ n + 0 = omega arith in
+    let b : count ≡ count + 0 = omega arith in
+    let r : Ran = run kind.HexIn limit (n + 0) (count + 0) last rest in
+    let z : r.used ≡ 0 + r.used = omega arith in
+    (λ i. run kind.HexIn limit (a i) (b i) last rest) ∙ (λ i. record { used = z i; made = r.made })
+run-pairs limit n count last rest (ArePairs.pair {m = m} {x = x} {y = y} {xs = xs} c d pairs) room even =
+    let is_even : (count % 2 == 1) ≡ false = grind (arith, nat_tests, even) in
+    let is_odd : ((count + 1) % 2 == 1) ≡ true = (let o : (count + 1) % 2 ≡ 1 = omega (arith, even) in grind (arith, nat_tests, o)) in
+    let none : adds kind.HexIn count last x ≡ [] =
+    λ i. if is_even i then (16 * hex_value (unwrap_or last 0) + hex_value x) ∷ [] else [] in
+    let value : adds kind.HexIn (count + 1) (Some x) y ≡ value_of x y ∷ [] = λ i. if is_odd i then value_of x y ∷ [] else [] in
+    let first = run-byte kind.HexIn limit n count last x (y ∷ xs ++ rest) (omega (arith, room)) (ap not c) in
+    let second = run-byte kind.HexIn limit n (count + 1) (Some x) y (xs ++ rest) (omega (arith, room)) (ap not d) in
+    let ih = run-pairs limit (n + 1) (count + 1 + 1) (Some y) rest pairs (omega (arith, room)) (omega (arith, even)) in
+    let r : Ran = run kind.HexIn limit (n + suc m) (count + length (x ∷ y ∷ xs)) (last_or (Some y) xs) rest in
+    let p : n + 0 ≡ n = omega arith in
+    let q : n + 1 + m ≡ n + suc m = omega arith in
+    let s : count + 1 + 1 + length xs ≡ count + length (x ∷ y ∷ xs) = omega arith in
+    let u : 1 + (1 + (length xs + r.used)) ≡ length (x ∷ y ∷ xs) + r.used = omega arith in
+    first
+    ∙ (λ i. joined (record { used = 1; made = none i }) (run kind.HexIn limit (n + length (none i)) (count + 1) (Some x) (y ∷ xs ++ rest)))
+    ∙ (λ i. joined (record { used = 1; made = [] }) (run kind.HexIn limit (p i) (count + 1) (Some x) (y ∷ xs ++ rest)))
+    ∙ (λ i. joined (record { used = 1; made = [] }) (second i))
+    ∙ (λ i. joined (record { used = 1; made = [] })
+    (joined (record { used = 1; made = value i }) (run kind.HexIn limit (n + length (value i)) (count + 1 + 1) (Some y) (xs ++ rest))))
+    ∙ (λ i. joined (record { used = 1; made = [] }) (joined (record { used = 1; made = value_of x y ∷ [] }) (ih i)))
+    ∙ (λ i. joined (record { used = 1; made = [] }) (joined (record { used = 1; made = value_of x y ∷ [] })
+    (joined (record { used = length xs; made = hex_in xs }) (run kind.HexIn limit (q i) (s i) (last_or (Some y) xs) rest))))
+    ∙ (λ i. record { used = u i; made = sym (hex_in-pair x y xs c d) i ++ r.made })
+
+run-front : {m : ℕ} (limit n count : ℕ) (last : Option ℕ) (src : List ℕ) (used : ℕ) → used ≤ length src → ArePairs m (take used src) →
+    n + m ≤ limit → count % 2 ≡ 0 →
+    run kind.HexIn limit n count last src
+    ≡ joined (record { used = used; made = hex_in (take used src) })
+    (run kind.HexIn limit (n + m) (count + used) (last_or last (take used src)) (drop used src))
+run-front {m} limit n count last src used within digits room even =
+    let e : length (take used src) ≡ used = length-take-le used src within in
+    (λ i. run kind.HexIn limit n count last (sym (take-append-drop used src) i))
+    ∙ run-pairs limit n count last (drop used src) digits room even
+    ∙ (λ i. joined (record { used = e i; made = hex_in (take used src) })
+    (run kind.HexIn limit (n + m) (count + e i) (last_or last (take used src)) (drop used src)))
+
+module _ (limit count : ℕ) (last : Option ℕ) (src old : List ℕ) (even : count % 2 ≡ 0) where
+  -- the pairs that were read are a part of the run
+  pub pairs-part : (new : List ℕ) (used : ℕ) → ReadsPairs limit src old new used → 0 < used →
+      AppendsPart kind.HexIn limit count last src old new used
+  pairs-part new used r some = record {
+    made = hex_in (take used src);
+    filled = r.filled;
+    within = r.within;
+    goes =
+        run-front limit (length old) count last src used r.within r.digits r.below even
+        ∙ (let n : length old + r.pairs ≡ length new = (let f = ap length r.filled in let h = length-hex_in r.digits in
+        omega (arith, f, h, length-append old (hex_in (take used src)))) in
+        λ i. joined (record { used = used; made = hex_in (take used src) })
+        (run kind.HexIn limit (n i) (count + used) (last_or last (take used src)) (drop used src)));
+    stops = λ none. absurd (omega (arith, none, some));
+  }
+
+  pub pairs-last : (new : List ℕ) (used : ℕ) → ReadsPairs limit src old new used → IsDigitLast kind.HexIn last →
+      IsDigitLast kind.HexIn (last_or last (take used src))
+  pairs-last new used r h = last-pairs last h r.digits
+
+  -- one pair more, with the room that it needs
+  module _ (new : List ℕ) (used capacity x y : ℕ) (r : ReadsPairs limit src old new used) (first : slice_index src used ≡ x)
+      (second : slice_index src (used + 1) ≡ y) (a : is_hex x ≡ true) (b : is_hex y ≡ true) (within : used + 1 < length src) (below : length new < limit) where
+    two : take (used + 2) src ≡ take used src ++ x ∷ y ∷ []
+    two =
+        let s : used + 2 ≡ used + 1 + 1 = omega arith in
+        ap (λ n. take n src) s ∙ take_more src (used + 1) 0 within
+        ∙ (λ i. take_more src used 0 (omega (arith, within)) i ++ second i ∷ [])
+        ∙ (λ i. (take used src ++ first i ∷ []) ++ y ∷ [])
+        ∙ append_assoc (take used src) (x ∷ []) (y ∷ [])
+
+    more-pairs : ArePairs (suc r.pairs) (take (used + 2) src)
+    more-pairs = subst (ArePairs (suc r.pairs)) (sym two) (pairs-push x y r.digits a b)
+
+    room-left : length old + suc r.pairs ≤ limit
+    room-left =
+        let f = ap length r.filled in
+        let h = length-hex_in r.digits in
+        omega (arith, f, h, below, length-append old (hex_in (take used src)))
+
+    pub pair-more : ReadsPairs limit src old (new ++ value_of x y ∷ []) (used + 2)
+    pair-more = record {
+      pairs = suc r.pairs;
+      digits = more-pairs;
+      within = omega (arith, within);
+      below = room-left;
+      filled =
+          ap (λ z. z ++ value_of x y ∷ []) r.filled
+          ∙ append_assoc old (hex_in (take used src)) (value_of x y ∷ [])
+          ∙ ap (λ z. old ++ z) (sym (hex_in-push x y r.digits a b))
+          ∙ ap (λ z. old ++ hex_in z) (sym two);
+    }
+
+    pub pair-room : HasRoom kind.HexIn limit count last src old capacity → length new < capacity
+    pair-room room =
+        let rest : Ran = run kind.HexIn limit (length old + suc r.pairs) (count + (used + 2)) (last_or last (take (used + 2) src))
+        (drop (used + 2) src) in
+        let e = ap (λ (z : Ran). length z.made)
+        (run-front limit (length old) count last src (used + 2) (omega (arith, within)) more-pairs room-left even) in
+        let h = length-hex_in more-pairs in
+        let f = ap length r.filled in
+        let g = length-hex_in r.digits in
+        omega (arith, e, h, f, g, room, length-append (hex_in (take (used + 2) src)) rest.made, length-append old (hex_in (take used src)))
+
+pub pairs-none : (limit : ℕ) (src old : List ℕ) → length old ≤ limit → ReadsPairs limit src old old 0
+pairs-none limit src old below = record {
+  pairs = 0;
+  digits = ArePairs.no_pairs;
+  within = omega arith;
+  below = omega (arith, below);
+  filled = sym (append-nil old);
+}
+
+-- a byte whose digit value is known is a digit
+pub digit-hex : (x v : ℕ) → Some v ≡ (if is_hex x then Some (hex_value x) else None) → is_hex x ≡ true
+digit-hex x v e = go (is_hex x) e
+  where
+    go : (b : Bool) → Some v ≡ (if b then Some (hex_value x) else None) → b ≡ true
+    go true e = refl
+    go false e = absurd (cc)

@@ -1,0 +1,14 @@
+use Rattle.std.proofs.Common.{◌<◌, ◌≤◌, get_or, arith}
+use Rattle.std.proofs.lemmas.Bool.Decides.{nat_tests}
+use Rattle.stream_filters.proofs.DigitLemmas.{values_table, digit_read, digit_refused}
+use Rattle.stream_filters.proofs.digits.digit_value.Goals as goal
+
+pub returns-then-value-lt16-clause-value : goal.returns-then-value-lt16-clause-value
+returns-then-value-lt16-clause-value c =
+    let small : get_or values_table c.args.byte 0 < 16 = grind (arith, nat_tests) in
+    digit_read c.args.byte (omega arith) small
+
+pub returns-else-value-lt16-clause-value : goal.returns-else-value-lt16-clause-value
+returns-else-value-lt16-clause-value c =
+    let big : 16 ≤ get_or values_table c.args.byte 0 = grind (arith, nat_tests) in
+    digit_refused c.args.byte (omega arith) big
