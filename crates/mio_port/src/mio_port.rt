@@ -21,7 +21,8 @@ ghost use Rattle.mio_port.specs.OneEnd.{ended_end, closed_end};
 ghost use Rattle.mio_port.specs.EndPlaces.{PlacesStay, PlaceWent, wants_ready};
 ghost use Rattle.mio_port.specs.Asking.{PollLooked};
 ghost use Rattle.mio_port.specs.PollLeft.{PollLeft};
-ghost use Rattle.mio_port.specs.PortCalls.{Listens, Marked, MarkedTable, Accepts, MadeLink, AcceptorAsked};
+ghost use Rattle.mio_port.specs.PortCalls.{Listens, Marked, Accepts, MadeLink, AcceptorAsked};
+ghost use Rattle.mio_port.specs.Turns.{MarkedTable, SomeMarked};
 ghost use Rattle.mio_port.specs.PortFaults.{IsFaultless, mio_faults, vouches_nothing, waits_untold};
 
 mod linking;
@@ -31,6 +32,7 @@ use crate::acceptor::{Acceptor, socket_addr};
 use crate::clock::SteadyClock;
 use crate::ends::Ends;
 use crate::kernel::Kernel;
+use crate::turn::Turn;
 use ev_port::{
     Accepted, Addr, ConnAnswer, Polled, Port, ReadAnswer, Started, Want, WantTable, WriteAnswer,
 };
@@ -73,6 +75,7 @@ pub struct MioPort<'a, R> {
     kernel: Option<Kernel>,
     acceptor: Acceptor,
     ends: Ends,
+    turn: Turn,
     polling_faults: u64,
 }
 
@@ -85,6 +88,7 @@ impl<'a, R: Net + Clock + AllocGlobal> MioPort<'a, R> {
         ensures ends { result.ends.ends.items ≡ [] }
         ensures kernel { result.kernel ≡ None }
         ensures clock { result.clock.last ≡ 0 }
+        ensures turn { (result.turn.who ≡ 0) × (result.turn.left ≡ 0) }
     {
         MioPort {
             rt,
@@ -92,6 +96,7 @@ impl<'a, R: Net + Clock + AllocGlobal> MioPort<'a, R> {
             kernel: None,
             acceptor: Acceptor::new(),
             ends: Ends::new(rt.alloc()),
+            turn: Turn::new(),
             polling_faults: 0,
         }
     }
@@ -113,6 +118,7 @@ impl<'a, R: Net + Clock + AllocGlobal> MioPort<'a, R> {
         ensures quiet { self.new.acceptor.ready ≡ false }
         ensures unpaused { self.new.acceptor.paused_to ≡ None }
         ensures clock { self.new.clock ≡ self.old.clock }
+        ensures turn { self.new.turn ≡ self.old.turn }
     {
         self.acceptor.shut();
         let mut kernel = match self.kernel.take() {
@@ -171,6 +177,7 @@ impl<'a, R: Net + Clock + AllocGlobal> Port for MioPort<'a, R> {
         ensures unpaused { self.new.acceptor.paused_to ≡ None }
         ensures stays { self.new.ends ≡ self.old.ends }
         ensures clock { self.new.clock ≡ self.old.clock }
+        ensures turn { self.new.turn ≡ self.old.turn }
 
         // What every port says.
         ensures cause { ListenerFaults (mio_faults self.old) (mio_faults self.new) (is_failed_start result) }
@@ -205,6 +212,7 @@ impl<'a, R: Net + Clock + AllocGlobal> Port for MioPort<'a, R> {
 
     fn poll(&mut self, wants: &mut [Want], accept: bool, timeout: Option<u64>) -> Polled
         ensures marks { Marked self.new.ends.ends.items wants.old wants.new result }
+        ensures turn { self.new.turn ≡ self.old.turn }
         ensures accepts { Accepts self.new.acceptor accept result }
         ensures left { PollLeft self.old self.new result }
         ensures looked { PollLooked (list_any (wants_ready self.old.ends.ends.items) wants.old) accept timeout self.old self.new result }
@@ -222,7 +230,8 @@ impl<'a, R: Net + Clock + AllocGlobal> Port for MioPort<'a, R> {
     }
 
     fn poll_table(&mut self, wants: &mut WantTable, accept: bool, timeout: Option<u64>) -> Polled
-        ensures marks { MarkedTable self.new.ends.ends.items wants.old wants.new result }
+        ensures marks { MarkedTable self.new.ends.ends.items self.old.turn self.new.turn wants.old wants.new result }
+        ensures some { SomeMarked self.new.ends.ends.items wants.old wants.new result }
         ensures accepts { Accepts self.new.acceptor accept result }
         ensures left { PollLeft self.old self.new result }
         ensures looked { PollLooked (list_any (wants_ready self.old.ends.ends.items) (named wants.old)) accept timeout self.old self.new result }
@@ -243,6 +252,7 @@ impl<'a, R: Net + Clock + AllocGlobal> Port for MioPort<'a, R> {
         ensures ends_made { NewEnds self.new.ends.ends.items self.old.acceptor.target link result }
         ensures listener { AcceptorAsked self.old.acceptor self.new.acceptor self.new.clock.last result }
         ensures steady { self.old.clock.last ≤ self.new.clock.last }
+        ensures turn { self.new.turn ≡ self.old.turn }
 
         // What every port says.
         ensures cause { ListenerFaults (mio_faults self.old) (mio_faults self.new) (is_failed_accept result) }
