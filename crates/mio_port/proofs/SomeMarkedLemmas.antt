@@ -65,14 +65,15 @@ any-at p r w at (suc n) l a b = any-more p r w n ∙ elim (cases_eq at n) [
 -- a list of which something is marked isn't empty
 listed : (m : Want → Want) (ws : List Want) → list_any (λ w. is_marked (m w)) ws ≡ true → 0 < length (filter is_marked (map m ws))
 listed m [] h = absurd (both_ways false refl h)
-listed m (w ∷ ws) h = by (is_marked (m w)) refl
-  where
-    by : (b : Bool) → is_marked (m w) ≡ b → 0 < length (filter is_marked (m w ∷ map m ws))
-    by true is = let e = ap (λ q. length (cond q (m w ∷ filter is_marked (map m ws)) (filter is_marked (map m ws)))) is in omega (arith, e)
-    by false is =
-        let e = ap (λ q. length (cond q (m w ∷ filter is_marked (map m ws)) (filter is_marked (map m ws)))) is in
-        let rest = listed m ws (ap (λ q. q || list_any (λ x. is_marked (m x)) ws) (sym is) ∙ h) in
-        omega (arith, e, rest)
+listed m (w ∷ ws) h =
+    let rest = filter is_marked (map m ws) in
+    elim (cases_Bool (is_marked (m w))) [
+      | inl is ↦ (let e = ap (λ q. length (cond q (m w ∷ rest) rest)) is in omega (arith, e))
+      | inr is ↦ (
+          let e = ap (λ q. length (cond q (m w ∷ rest) rest)) is in
+          let more = listed m ws (ap (λ q. q || list_any (λ x. is_marked (m x)) ws) (sym is) ∙ h) in
+          omega (arith, e, more))
+    ]
 
 -- What is marked of one row
 
@@ -146,7 +147,15 @@ module _ (t : WantsValue) (ends : List (Option End)) where
 
 pub some-marked : (ends : List (Option End)) (turn now_turn : Turn) (old new : WantsValue) (answer : Polled)
     → MarkedTable ends turn now_turn old new answer → SomeMarked ends old new answer
-some-marked ends turn now_turn old new (polled.Ready accept) h some =
+some-marked ends turn now_turn old new (polled.Ready accept) h =
+    λ some.
     let f = found (wants_ready ends) old.reads old.writes (2 * old.links) some in
     subst (λ ws. 0 < length ws) (sym h.1) (one-listed old ends turn now_turn f.at h.0 (sym (ready-row old ends f.at) ∙ f.is))
 some-marked ends turn now_turn old new polled.Failed h = tt
+
+-- of a poll that was ready
+pub ready-marked : (ends : List (Option End)) (turn now_turn : Turn) (old new : WantsValue) (answer : Polled)
+    → TurnWent (takes_turns old ends) turn now_turn → new.list ≡ filter is_marked (map (marked_in_turn old ends now_turn.who) (named old))
+    → SomeMarked ends old new answer
+ready-marked ends turn now_turn old new (polled.Ready accept) went is = some-marked ends turn now_turn old new (polled.Ready accept) (went, is)
+ready-marked ends turn now_turn old new polled.Failed went is = tt

@@ -28,7 +28,7 @@ abbrev pub Tells : NumberSetValue → List (Option End) → (Option End → Bool
 Tells set ends is_ready = (n : ℕ) → set.has n ≡ is_ready (get_or ends n None)
 
 -- an end that is ready for reading is bulky or isn't
-ready-parts : (place : Option End) → (is_prompt place || is_bulky place) ≡ is_read_ready place
+pub ready-parts : (place : Option End) → (is_prompt place || is_bulky place) ≡ is_read_ready place
 ready-parts None = refl
 ready-parts (Some e) = parts e.read_ready e.bulky
   where
@@ -115,42 +115,26 @@ module _ (t : WantsValue) (ends : List (Option End)) (prompt bulky writable : Nu
       ∙ elsewhere r (n == who) (is_prompt (get_or ends n None)) (may who) (is_bulky (get_or ends n None) && not (peer_drains t ends n)) (at_who n)
 
   pub marked-turn : may who ≡ true → marked_with prompt writable who ≡ marked_in_turn t ends who
-  marked-turn h = fun_ext (λ w. λ i. record w {
-    can_read = (taken w.read (number w.side == who) (prompt.has (number w.side)) (may who) h ∙ read_mark w.read (number w.side)) i;
-    can_write = write_mark w i;
-  })
+  marked-turn h =
+      let same : (w : Want) → marked_with prompt writable who w ≡ marked_in_turn t ends who w =
+      λ w. λ i. record w {
+        can_read = (taken w.read (number w.side == who) (prompt.has (number w.side)) (may who) h ∙ read_mark w.read (number w.side)) i;
+        can_write = write_mark w i;
+      } in
+      fun_ext same
 
   pub marked-left : may who ≡ false → marked_by prompt writable ≡ marked_in_turn t ends who
-  marked-left h = fun_ext (λ w. λ i. record w {
-    can_read = (left w.read (number w.side == who) (prompt.has (number w.side)) (may who) h ∙ read_mark w.read (number w.side)) i;
-    can_write = write_mark w i;
-  })
+  marked-left h =
+      let same : (w : Want) → marked_by prompt writable w ≡ marked_in_turn t ends who w =
+      λ w. λ i. record w {
+        can_read = (left w.read (number w.side == who) (prompt.has (number w.side)) (may who) h ∙ read_mark w.read (number w.side)) i;
+        can_write = write_mark w i;
+      } in
+      fun_ext same
 
 pub in_turn-ends : (t : WantsValue) (ends : List (Option End)) (bulky : NumberSetValue) → Tells bulky ends is_bulky
     → in_turn t bulky ≡ takes_turns t ends
 in_turn-ends t ends bulky bulks = fun_ext (λ n. λ i. t.reads n && bulks n i)
-
--- a set with one number more
-pub marked_by-with : (readable with_one writable : NumberSetValue) (who : ℕ)
-    → ((n : ℕ) → with_one.has n ≡ (if n == who then true else readable.has n)) → marked_by with_one writable ≡ marked_with readable writable who
-marked_by-with readable with_one writable who has = fun_ext (λ w. λ i. record w {
-  can_read = w.read && ((has (number w.side) ∙ or_if (number w.side == who) (readable.has (number w.side))) i);
-  can_write = w.write && writable.has (number w.side);
-})
-  where
-    or_if : (a b : Bool) → (if a then true else b) ≡ (a || b)
-    or_if true b = refl
-    or_if false b = refl
-
--- a number that is put in and then is what it was
-pub put_back : (old more new : NumberSetValue) (who : ℕ) (was : Bool) → was ≡ old.has who
-    → ((n : ℕ) → more.has n ≡ (if n == who then true else old.has n)) → ((n : ℕ) → new.has n ≡ (if n == who then was else more.has n))
-    → (n : ℕ) → new.has n ≡ old.has n
-put_back old more new who was is added put n = put n ∙ back (n == who) refl
-  where
-    back : (b : Bool) → (n == who) ≡ b → (if n == who then was else more.has n) ≡ old.has n
-    back true h = ap (λ c. if c then was else more.has n) h ∙ is ∙ ap old.has (sym (eqb-true n who h))
-    back false h = ap (λ c. if c then was else more.has n) h ∙ added n ∙ ap (λ c. if c then true else old.has n) h
 
 -- What every port says of a poll of a table
 

@@ -1,88 +1,10 @@
--- Whose turn it is: what one side wants of a table, the next in the round, and that everybody has a turn.
-use Rattle.std.proofs.Common.{◌≡◌, ◌≢◌, ◌⊎◌, ◌∙◌, ℕ, zero, suc, ◌+◌, ◌-◌, ◌*◌, ◌<◌, ◌≤◌, ◌==◌, nat_lt, ◌^◌, min, length, Bool, true, false, ◌&&◌}
-use Rattle.std.proofs.Common.{◌||◌, List, [], ◌∷◌, ◌++◌, Option, Some, None, refl, sym, ap, subst, arith, inl, inr, add-one, length-append}
-use Rattle.std.specs.Prelude.{filter}
+-- Whose turn it is: that it takes turns, and that everybody has one.
+use Rattle.std.proofs.Common.{◌≡◌, ◌⊎◌, ◌∙◌, ℕ, zero, suc, ◌+◌, ◌-◌, ◌*◌, ◌<◌, ◌≤◌, nat_lt, Bool, true, false, ◌&&◌, sym, ap, subst, arith}
+use Rattle.std.proofs.Common.{inl, inr}
 use Rattle.std.proofs.lemmas.Bool.{and_parts, cases_Bool, cases_eq, cases_lt, both_ways, ltb-true}
-use Rattle.std.proofs.lemmas.List.{append_cancel_left}
-use Rattle.ev_types.specs.Sides.{number}
-use Rattle.number_set.specs.Next.{IsLeast, IsNext}
-use Rattle.ev_port.specs.declared.port.Want.{Want}
-use Rattle.ev_port.specs.Table.{WantsValue, IsPreviousWanted, PreviousWant, row, wants_some, named_before}
-use Rattle.ev_port.proofs.NamedLemmas.{number-side_of, named-none, named-some}
+use Rattle.number_set.specs.Next.{IsLeast}
 use Rattle.mio_port.specs.declared.turn.Turn.{Turn}
-use Rattle.mio_port.specs.Turns.{EachHasItsTurn, GoesTo, PassedOver, TurnBy, TurnWent}
-
--- What one side wants
-
--- the last item of a list
-last_or : Want → List Want → Want
-last_or d [] = d
-last_or d (x ∷ xs) = last_or x xs
-
-last_or-push : (d : Want) (xs : List Want) (x : Want) → last_or d (xs ++ x ∷ []) ≡ x
-last_or-push d [] x = refl
-last_or-push d (y ∷ xs) x = last_or-push y xs x
-
-none_left : (a b : Bool) → (a || b) ≡ false → a ≡ false
-none_left true b h = h
-none_left false b h = refl
-
-none_right : (a b : Bool) → (a || b) ≡ false → b ≡ false
-none_right true b h = absurd (both_ways true h refl)
-none_right false b h = h
-
--- its want is the last one before the next number
-pub wanted-here : (t : WantsValue) (n : ℕ) (w : Want) → PreviousWant t (n + 1) w → number w.side ≡ n → w ≡ row t n
-wanted-here t n w h here =
-    let split : named_before t (n + 1) ≡ named_before t n ++ w ∷ [] = h.named ∙ ap (λ k. named_before t k ++ w ∷ []) here in
-    elim (cases_Bool (wants_some (row t n))) [
-      | inl some ↦ sym (last_or-push w (named_before t n) w)
-          ∙ ap (last_or w) (sym split ∙ named-some t.reads t.writes n some) ∙ last_or-push w (named_before t n) (row t n)
-      | inr none ↦ absurd (let e = ap length (sym (named-none t.reads t.writes n none) ∙ split) in
-          let l = length-append (named_before t n) (w ∷ []) in omega (arith, e, l))
-    ]
-
--- another one is the last
-pub wanted-below : (t : WantsValue) (n : ℕ) (w : Want) → PreviousWant t (n + 1) w → (number w.side ≡ n → ⊥) → wants_some (row t n) ≡ false
-wanted-below t n w h elsewhere = elim (cases_Bool (wants_some (row t n))) [
-  | inl some ↦ absurd (
-      let same : row t n ≡ w = sym (last_or-push w (named_before t n) (row t n))
-      ∙ ap (last_or w) (sym (named-some t.reads t.writes n some) ∙ h.named) ∙ last_or-push w (named_before t (number w.side)) w in
-      elsewhere (sym (ap (λ (x : Want). number x.side) same) ∙ number-side_of n))
-  | inr none ↦ none
-]
-
--- none is before the next number
-pub wanted-none : (t : WantsValue) (n : ℕ) → named_before t (n + 1) ≡ [] → wants_some (row t n) ≡ false
-wanted-none t n h = elim (cases_Bool (wants_some (row t n))) [
-  | inl some ↦ absurd (let e = ap length (sym (named-some t.reads t.writes n some) ∙ h) in
-      let l = length-append (named_before t n) (row t n ∷ []) in omega (arith, e, l))
-  | inr none ↦ none
-]
-
-pub reads-none : (t : WantsValue) (n : ℕ) → wants_some (row t n) ≡ false → t.reads n ≡ false
-reads-none t n h = none_left (t.reads n) (t.writes n) h
-
-pub writes-none : (t : WantsValue) (n : ℕ) → wants_some (row t n) ≡ false → t.writes n ≡ false
-writes-none t n h = none_right (t.reads n) (t.writes n) h
-
--- The next in the round
-
--- from the number behind this one on, in 64 bits
-pub goes-behind : (takes : ℕ → Bool) (who at n : ℕ) → at ≡ min (who + 1) (2 ^ 64 - 1) → IsLeast takes at n → n + 1 < 2 ^ 64
-    → GoesTo takes who (Some n)
-goes-behind takes who at n behind h small =
-    let reached = h.reached in
-    inl (record {
-      reached = omega (arith, reached, small, behind);
-      passes = h.passes;
-      none_before = λ k a b. h.none_before k (omega (arith, a, behind)) b;
-    })
-
-pub goes-round : (takes : ℕ → Bool) (who at : ℕ) (next : Option ℕ) → at ≡ min (who + 1) (2 ^ 64 - 1) → ((k : ℕ) → at ≤ k → takes k ≡ false)
-    → IsNext takes 0 next → GoesTo takes who next
-goes-round takes who at None most none h n = h n (omega arith)
-goes-round takes who at (Some n) most none h = inr ((λ k l. none k (omega (arith, l, most))), h)
+use Rattle.mio_port.specs.Turns.{EachHasItsTurn, PassedOver, TurnBy, TurnWent}
 
 -- Whoever has the turn takes turns, where somebody does
 pub turn-takes : (takes : ℕ → Bool) (old new : Turn) (n : ℕ) → TurnWent takes old new → takes n ≡ true → takes new.who ≡ true

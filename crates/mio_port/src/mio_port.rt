@@ -144,8 +144,10 @@ impl<'a, R: Net + Clock + AllocGlobal> MioPort<'a, R> {
 /// - `poll` is `Failed`, at the count of polling, before the first start and where the kernel refuses to wait; then nothing
 ///   is marked. A wait that a signal interrupts is ready for nothing. A timeout is in milliseconds, `None` is for ever, and
 ///   more than 24 days are cut to that.
-/// - `poll_table` marks what `poll` would mark of the same wants, and waits as long. It doesn't go over the wants: it joins
-///   the table's sets of numbers and the port's, so what is wanted and isn't ready costs one word in 64 numbers.
+/// - `poll_table` marks what `poll` would mark of the same wants, but of the ends whose last read filled its room at most
+///   one for reading, in turns of 64 polls, and not while what waits for its peer can be written. It waits as long. It
+///   doesn't go over the wants: it joins the table's sets of numbers and the port's, so what is wanted and isn't ready
+///   costs one word in 64 numbers.
 /// - `accept` makes both ends with `TCP_NODELAY`. The Out end is never connected yet: its check decides, also where its
 ///   connection couldn't be begun. `NoMemory` comes before anything is accepted. `NotYet` comes for a link that was
 ///   accepted before, where none waits, where one went before it was taken, and where the system is short of
@@ -155,6 +157,8 @@ impl<'a, R: Net + Clock + AllocGlobal> MioPort<'a, R> {
 /// - `connect_state` is `Failed`, at the end's count, for a connection that was refused or that broke, and stays so.
 /// - `read` and `write` are `NotYet` where they would block or were interrupted, and at an end that was closed or never
 ///   made; a write that takes no byte is `Failed`, as is every other error. No signal comes of a peer that is gone.
+/// - `stop_accepting` closes the listener: a client that comes from then on is refused, and one that was not accepted yet is
+///   cut off.
 /// - `close_write` ignores what the system says, and `close` drops the socket with all that wasn't read.
 impl<'a, R: Net + Clock + AllocGlobal> Port for MioPort<'a, R> {
     ghost use Rattle.std.specs.Prelude.{⊤};
@@ -348,6 +352,18 @@ impl<'a, R: Net + Clock + AllocGlobal> Port for MioPort<'a, R> {
     {
         self.ends.close(end);
         self.acceptor.end_pause();
+    }
+
+    fn stop_accepting(&mut self)
+        ensures shut { self.new ≡ record self.old { acceptor = shut_acceptor self.old.acceptor.faults } }
+
+        // What every port says.
+        ensures cause { FaultsStay (mio_faults self.old) (mio_faults self.new) }
+        ensures ends { AllWent silent_end silent_end (λ _. no_step) }
+        ensures told { PortStays silent_port silent_port }
+        ensures vouched { LongerBy (vouches_nothing self.old) (vouches_nothing self.new) [] }
+    {
+        self.acceptor.shut();
     }
 
     ghost waits_no_more = { λ plan t u quiet waits. waits };

@@ -84,8 +84,7 @@ pub(crate) fn wants_at(wants: &WantTable, number: usize) -> (bool, bool)
 fn is_in_turn(wants: &WantTable, bulky: &NumberSet, number: usize) -> bool
     ensures { result ≡ in_turn wants.now bulky.now number }
 {
-    let (read, _write) = wants_at(wants, number);
-    read && bulky.contains(number)
+    bulky.contains(number) && wants_at(wants, number).0
 }
 
 /// The first from a number on that takes turns.
@@ -107,8 +106,9 @@ fn first_in_turn(wants: &WantTable, bulky: &NumberSet, from: usize) -> Option<us
 fn next_in_round(wants: &WantTable, bulky: &NumberSet, who: usize) -> Option<usize>
     ensures { GoesTo (in_turn wants.now bulky.now) who result }
 {
+    let first = first_in_turn(wants, bulky, 0)?;
     match first_in_turn(wants, bulky, who.saturating_add(1)) {
-        Some(number) => Some(number),
-        None => first_in_turn(wants, bulky, 0),
+        Some(behind) => Some(behind),
+        None => Some(first),
     }
 }
