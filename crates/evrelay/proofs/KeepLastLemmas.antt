@@ -2,7 +2,7 @@
 use Rattle.std.proofs.Common.{◌≡◌, ◌∙◌, ℕ, ◌+◌, ◌-◌, ◌≤◌, List, ◌++◌, length, drop, sym, ap, arith, length-append, length-drop, drop-drop}
 use Rattle.std.proofs.lemmas.List.{drop-append-le}
 use Rattle.std.proofs.Math.Seq.{drop-append-add}
-use Rattle.circular_buffer.specs.Buffer.{keep_last}
+use Rattle.evrelay.specs.RingWants.{keep_last}
 
 module _ {X : Type 0} where
   -- a list that is no longer is kept whole

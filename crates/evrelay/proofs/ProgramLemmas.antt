@@ -1,5 +1,5 @@
 -- What the program says of its end, from what its writes came to.
-use Rattle.std.proofs.Common.{◌≡◌, ◌⊎◌, inl, inr, ℕ, true, if◌then◌else◌, List, [], ◌++◌, Option, subst, sym, ◌∙◌, ap}
+use Rattle.std.proofs.Common.{◌≡◌, ◌⊎◌, inl, inr, ℕ, true, false, if◌then◌else◌, List, [], ◌++◌, Option, subst, sym, ◌∙◌, ap}
 use Rattle.ev_types.specs.declared.entry.Entry.{Entry}
 use Rattle.ev_types.specs.declared.status.Status.{Status}
 use Rattle.ev_port.specs.FaultCounts.{Rose}
@@ -20,27 +20,26 @@ none-seated hooks none = ap (λ z. seated_sides z) none
 said-shown : (ended : Status) (es : List Entry) → shows ended ≡ true → ring_text es ++ complaint ended ≡ said ended es
 said-shown ended es shown = ap (λ b. (if b then ring_text es else []) ++ complaint ended) (sym shown)
 
+-- where no lines are shown that of the status is all
+pub says-line : (ended : Status) (es : List Entry) (a b : Option (List ℕ)) (f g : ℕ) → shows ended ≡ false → Complains ended a b f g
+    → Says ended es a b f g
+says-line ended es a b f g shown line =
+    let same : complaint ended ≡ said ended es = ap (λ b. (if b then ring_text es else []) ++ complaint ended) (sym shown) in
+    subst (λ text. (TookOn a b text × (g ≡ f)) ⊎ (TookPart a b text × Rose f g)) same line
+
 -- the lines were cut off
 pub says-cut : (ended : Status) (es : List Entry) (a b : Option (List ℕ)) (f g : ℕ) → shows ended ≡ true → TookPart a b (ring_text es) → Rose f g
     → Says ended es a b f g
 says-cut ended es a b f g shown part rose =
-    inr (inl (subst (λ text. TookPart a b text) (said-shown ended es shown) (part-first a b (ring_text es) (complaint ended) part), rose))
+    inr (subst (λ text. TookPart a b text) (said-shown ended es shown) (part-first a b (ring_text es) (complaint ended) part), rose)
 
--- behind the lines, or where memory was wanting for them, the line of the status followed
+-- behind the lines that of the status followed
 pub says-behind : (ended : Status) (es : List Entry) (a b c : Option (List ℕ)) (f m g : ℕ) → shows ended ≡ true
-    → TookOn a b (ring_text es) ⊎ (b ≡ a) → m ≡ f → Complains ended b c m g → Says ended es a c f g
-says-behind ended es a b c f m g shown (inl lines) calm (inl (line, still)) =
+    → TookOn a b (ring_text es) → m ≡ f → Complains ended b c m g → Says ended es a c f g
+says-behind ended es a b c f m g shown lines calm (inl (line, still)) =
     inl (subst (λ text. TookOn a c text) (said-shown ended es shown) (TookOn-join a b c (ring_text es) (complaint ended) lines line), still ∙ calm)
-says-behind ended es a b c f m g shown (inl lines) calm (inr (part, rose)) =
-    inr (inl (
+says-behind ended es a b c f m g shown lines calm (inr (part, rose)) =
+    inr (
       subst (λ text. TookPart a c text) (said-shown ended es shown) (part-second a b c (ring_text es) (complaint ended) lines part),
       subst (λ n. Rose n g) calm rose,
-    ))
-says-behind ended es a b c f m g shown (inr same) calm line =
-    inr (inr (subst (λ n. Complains ended a c n g) calm (subst (λ told. Complains ended told c m g) same line)))
-
--- a sink that is as it was has taken nothing
-pub told-of : {K : Type 0} (taken : K → Option (List ℕ)) (old new : K) (text : List ℕ) → TookOn (taken old) (taken new) text ⊎ (new ≡ old)
-    → TookOn (taken old) (taken new) text ⊎ (taken new ≡ taken old)
-told-of taken old new text (inl h) = inl h
-told-of taken old new text (inr same) = inr (ap taken same)
+    )

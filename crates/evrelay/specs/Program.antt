@@ -9,7 +9,7 @@ use Rattle.ev_port.specs.StreamBytes.{TookOn}
 use Rattle.ev_port.specs.declared.port.Port as port
 use Rattle.ev_port.specs.declared.stream.Sink as sink
 use Rattle.relay_serve.specs.Seen.{Seen}
-use Rattle.program_end.specs.Complains.{Complains, TookPart}
+use Rattle.program_end.specs.Complains.{TookPart}
 use Rattle.program_end.specs.EndStatus.{complaint}
 use Rattle.evrelay.specs.RingText.{ring_text}
 
@@ -27,13 +27,11 @@ shows ended = false
 abbrev pub said : Status → List Entry → List ℕ
 said ended entries = (if shows ended then ring_text entries else []) ++ complaint ended
 
--- That was said whole by a sink that did not fail, or in part by one that failed; or the line alone was, where memory was wanting for
--- the others.
+-- that was said whole by a sink that did not fail, or in part by one that failed
 abbrev pub Says : Status → List Entry → Option (List ℕ) → Option (List ℕ) → ℕ → ℕ → Type 0
 Says ended entries told now_told faults now_faults =
     (TookOn told now_told (said ended entries) × (now_faults ≡ faults))
     ⊎ (TookPart told now_told (said ended entries) × Rose faults now_faults)
-    ⊎ Complains ended told now_told faults now_faults
 
 -- Nothing was written of a report where memory ran out, and the sink failed only where the program ends for it.
 abbrev pub LeavesSink : {K : Type 0} → sink.Ghosts K → Status → K → K → Type 0

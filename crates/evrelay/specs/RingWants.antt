@@ -1,11 +1,14 @@
--- What the ring keeps of a trace, and of a table of wants.
-use Rattle.std.specs.Prelude.{◌≡◌, ◌⊎◌, ℕ, ◌*◌, ◌≤◌, List, [], ◌++◌, length, map}
-use Rattle.circular_buffer.specs.Buffer.{keep_last}
+-- What the ring keeps of a trace.
+use Rattle.std.specs.Prelude.{ℕ, ◌-◌, List, ◌++◌, drop, length, map}
 use Rattle.ev_types.specs.Trace.{Trace}
 use Rattle.ev_types.specs.declared.entry.Entry.{Entry}
 use Rattle.ev_types.specs.declared.entry.Entry.TheVariants as entry
 use Rattle.ev_port.specs.declared.port.Want.{Want}
-use Rattle.ev_port.specs.Table.{WantsValue, named_before, named}
+use Rattle.evrelay.specs.declared.last.LastEntries.{LastEntries}
+
+-- the last n of some items, or all, where they are no more
+abbrev pub keep_last : {X : Type 0} → ℕ → List X → List X
+keep_last n xs = drop (length xs - n) xs
 
 -- the entries of a trace, without their bytes, and the last 64 of them
 abbrev pub entries_of : Trace → List Entry
@@ -17,10 +20,6 @@ last_entries t = keep_last 64 (entries_of t)
 abbrev pub want_entry : Want → Entry
 want_entry w = entry.Want w.side w.read w.write
 
--- From this number of a side on stand the last wants: as many as are asked for, or all, where they are no more.
-pub record StartsLast (t : WantsValue) (most from : ℕ) : Type 0 where
-  pub rest : List Want
-  pub within : from ≤ 2 * t.links
-  pub split : named t ≡ named_before t from ++ rest
-  pub few : length rest ≤ most
-  pub many : (named_before t from ≡ []) ⊎ (most ≤ length rest)
+-- the last 64 of the entries in two halves
+abbrev pub last_of : LastEntries → List Entry
+last_of l = keep_last 64 (l.older.items ++ l.newer.items)

@@ -3,6 +3,8 @@
 //! `relay_told` does all that the program does; `main` hands it the words, the port and the streams, and hands on its status.
 #![tactic(auto)]
 
+mod last;
+mod lines;
 mod program;
 mod ring;
 #[cfg(test)]

@@ -1,16 +1,13 @@
 // All of the program but its words, its port and its streams: how the process ends, and what it says.
-ghost use Rattle.std.specs.Prelude.{◌≡◌, ◌⊎◌, ⊤, [], map, string_bytes, MatchOption, IfOk, IfErr, OnOk, OnErr};
+ghost use Rattle.std.specs.Prelude.{◌≡◌, ⊤, [], map, string_bytes, MatchOption, IfOk, IfErr};
 ghost use Rattle.ev_types.specs.Trace.{Trace};
 ghost use Rattle.ev_types.specs.declared.status.Status.{Status};
-ghost use Rattle.program_end.specs.Complains.{Complains, TookPart};
+ghost use Rattle.program_end.specs.Complains.{Complains};
 ghost use Rattle.program_end.specs.EndStatus.{status_number};
 ghost use Rattle.command_words.specs.WordsStatus.{words_status};
 ghost use Rattle.command_words.specs.ServeGrammar.{serve_words_of};
 ghost use Rattle.relay_serve.specs.Seen.{drained};
 ghost use Rattle.relay_serve.specs.Served.{DidWith, settings_on};
-ghost use Rattle.ev_port.specs.FaultCounts.{Rose};
-ghost use Rattle.ev_port.specs.StreamBytes.{TookOn};
-ghost use Rattle.evrelay.specs.RingText.{ring_text};
 ghost use Rattle.evrelay.specs.Program.{seen_by, shows, Says, LeavesSink, LeavesAll};
 ghost use Rattle.evrelay.specs.RingWants.{last_entries};
 ghost use Rattle.evrelay.specs.Carried.{Carried, IsPassedOn};
@@ -20,7 +17,7 @@ use crate::ring::Ring;
 use command_words::BadWords;
 use ev_port::{Port, Sink};
 use ev_types::Status;
-use program_end::{WriteFailed, finish, process_status, write_text};
+use program_end::{finish, process_status, write_text};
 use relay_serve::serve;
 use std::alloc::Global;
 use std::sync::Wait;
@@ -36,29 +33,18 @@ fn shows(ended: Status) -> bool
     }
 }
 
-/// Writes the last entries, unless memory is wanting for their text.
-fn show<E: Sink>(alloc: Global, errors: &mut E, ring: &Ring) -> Result<(), WriteFailed>
-    ensures shown { OnOk result (TookOn (E.taken errors.old) (E.taken errors.new) (ring_text ring.now.entries.items) ⊎ (errors.new ≡ errors.old)) }
-    ensures calm { OnOk result (E.faults errors.new ≡ E.faults errors.old) }
-    ensures prefix { OnErr result (TookPart (E.taken errors.old) (E.taken errors.new) (ring_text ring.now.entries.items)) }
-    ensures fault { OnErr result (Rose (E.faults errors.old) (E.faults errors.new)) }
-{
-    match ring.text(alloc) {
-        Ok(text) => write_text(errors, &text),
-        Err(_) => Ok(()),
-    }
-}
-
 /// Says how the program ended, after a fault of its port with the last entries, and answers the status of its process. Where
-/// that can't be written, the status still tells.
-fn say<E: Sink>(alloc: Global, errors: &mut E, ended: Status, ring: &Ring) -> u8
+/// that can't be written, the status still tells. Takes no memory.
+fn say<E: Sink>(errors: &mut E, ended: Status, ring: &mut Ring) -> u8
     ensures number { result ≡ status_number ended }
-    ensures said { Says ended ring.now.entries.items (E.taken errors.old) (E.taken errors.new) (E.faults errors.old) (E.faults errors.new) }
+    ensures said { Says ended (last_entries ring.old.told.trace) (E.taken errors.old) (E.taken errors.new) (E.faults errors.old) (E.faults errors.new) }
+    ensures told { ring.new.told.trace ≡ ring.old.told.trace }
 {
     if !shows(ended) {
         return finish(errors, ended);
     }
-    match show(alloc, errors, ring) {
+    ring.spell();
+    match write_text(errors, &ring.text) {
         Ok(()) => finish(errors, ended),
         Err(_) => process_status(ended),
     }
@@ -84,7 +70,7 @@ fn relay_by<R: Wait, P: Port, K: Sink, E: Sink>(
         return finish(errors, Status::Memory);
     };
     let ended = serve(rt, alloc, words, Vec::new(alloc), port, &mut ring, sink);
-    say(alloc, errors, ended, &ring)
+    say(errors, ended, &mut ring)
 }
 
 /// Relays as its words say, says on the last sink how that ended, and answers the status of the process. The words are those after

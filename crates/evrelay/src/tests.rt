@@ -134,7 +134,8 @@ fn put_71(ring: &mut Ring) -> Result<(), Fail> {
 fn keeps_64(alloc: Global) -> Result<[bool; 2], Fail> {
     let mut ring = Ring::new(alloc)?;
     put_71(&mut ring)?;
-    let text = ring.text(alloc)?;
+    ring.spell();
+    let text = &ring.text;
     Ok([
         text.starts_with(b"turn 7\nturn 8\n"),
         text.ends_with(b"turn 69\nread 7 out 16384 got 2\n"),

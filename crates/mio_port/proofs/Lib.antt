@@ -1,6 +1,9 @@
 pub mod Walks
 pub mod WantMarkLemmas
 pub mod TableMarkLemmas
+pub mod TurnLemmas
+pub mod PutLemmas
+pub mod SomeMarkedLemmas
 pub mod HeardLemmas
 pub mod ReportLemmas
 pub mod LookLemmas

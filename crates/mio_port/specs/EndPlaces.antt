@@ -1,5 +1,5 @@
 -- The counts of faults of all ends, and which wants the ends are ready for.
-use Rattle.std.specs.Prelude.{◌≡◌, ◌≢◌, ℕ, Bool, true, false, ◌&&◌, ◌||◌, List, Option, Some, None, slice_index_or, option_map}
+use Rattle.std.specs.Prelude.{◌≡◌, ◌≢◌, ℕ, Bool, true, false, not, ◌&&◌, ◌||◌, List, Option, Some, None, slice_index_or, option_map}
 use Rattle.ev_port.specs.FaultCounts.{Counted}
 use Rattle.ev_types.specs.declared.side.Side.TheVariants.{In, Out}
 use Rattle.ev_types.specs.declared.side.SideId.{SideId}
@@ -52,6 +52,16 @@ holds ends link = is_made ends (record { link = link; side = In }) || is_made en
 abbrev pub is_read_ready : Option End → Bool
 is_read_ready None = false
 is_read_ready (Some e) = e.read_ready
+
+-- it is ready for reading, and its last read didn't fill its room
+abbrev pub is_prompt : Option End → Bool
+is_prompt None = false
+is_prompt (Some e) = e.read_ready && not e.bulky
+
+-- it is ready for reading, and its last read filled its room
+abbrev pub is_bulky : Option End → Bool
+is_bulky None = false
+is_bulky (Some e) = e.read_ready && e.bulky
 
 abbrev pub is_write_ready : Option End → Bool
 is_write_ready None = false

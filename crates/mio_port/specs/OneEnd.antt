@@ -16,7 +16,7 @@ use Rattle.mio_port.specs.Sockets.{with_call}
 
 -- an end of which nothing was reported and that met no fault
 abbrev pub fresh : Connection → Bool → End
-fresh by write_ready = record { connection = by; read_ready = false; write_ready = write_ready; hung_up = false; faults = 0 }
+fresh by write_ready = record { connection = by; read_ready = false; write_ready = write_ready; hung_up = false; bulky = false; faults = 0 }
 
 -- the kernel reported this: an error and a hang-up make it ready both ways
 abbrev pub noticed_end : End → Event → End
@@ -39,10 +39,14 @@ told connection.Closed x = connection.Closed
 abbrev pub told_end : End → CallMade → End
 told_end e x = record e { connection = told e.connection x }
 
--- a read that came short of its room, with no hang-up, and one that would block leave nothing to read
+-- A read that came short of its room, with no hang-up, and one that would block leave nothing to read. The end is bulky behind one that
+-- filled its room, until one comes short.
 abbrev pub after_read : End → Attempt → ℕ → End
-after_read e (attempt.Moved count) room = record e { read_ready = e.read_ready && (e.hung_up || not (nat_lt count room)) }
-after_read e attempt.WouldBlock room = record e { read_ready = false }
+after_read e (attempt.Moved count) room = record e {
+  read_ready = e.read_ready && (e.hung_up || not (nat_lt count room));
+  bulky = not (nat_lt count room);
+}
+after_read e attempt.WouldBlock room = record e { read_ready = false; bulky = false }
 after_read e attempt.Interrupted room = e
 after_read e attempt.Failed room = faulty e
 after_read e attempt.Absent room = e
@@ -83,4 +87,4 @@ ended_end e = told_end e (call.EndedWriting, [])
 
 -- a closed end has no connection, and keeps its count
 abbrev pub closed_end : End → End
-closed_end e = record e { connection = connection.Closed; read_ready = false; write_ready = false }
+closed_end e = record e { connection = connection.Closed; read_ready = false; write_ready = false; bulky = false }

@@ -10,7 +10,6 @@ use Rattle.ev_port.specs.declared.port.Polled.TheVariants as polled
 use Rattle.ev_port.specs.declared.port.Started.{Started}
 use Rattle.ev_port.specs.declared.port.Started.TheVariants as started
 use Rattle.ev_port.specs.declared.port.Want.{Want}
-use Rattle.ev_port.specs.Table.{WantsValue, is_marked, named}
 use Rattle.mio_port.specs.declared.acceptor.Acceptor.{Acceptor}
 use Rattle.mio_port.specs.declared.acceptor.NoLink.{NoLink}
 use Rattle.mio_port.specs.declared.acceptor.NoLink.TheVariants as no_link
@@ -33,11 +32,6 @@ Listens d at to started.NoMemory = d.listener ≡ None
 abbrev pub Marked : List (Option End) → List Want → List Want → Polled → Type 0
 Marked ends old new (polled.Ready accept) = new ≡ map (marked ends) old
 Marked ends old new polled.Failed = new ≡ map unmarked old
-
--- what a poll of a table listed: what was wanted and is ready, with its marks, or nothing where it failed
-abbrev pub MarkedTable : List (Option End) → WantsValue → WantsValue → Polled → Type 0
-MarkedTable ends old new (polled.Ready accept) = new.list ≡ filter is_marked (map (marked ends) (named old))
-MarkedTable ends old new polled.Failed = new.list ≡ []
 
 -- links are accepted where that was asked and the listener can be
 abbrev pub Accepts : Acceptor → Bool → Polled → Type 0

@@ -25,7 +25,8 @@ pub(crate) enum Connection {
 }
 
 /// One end. The bits say that the kernel reported it ready for a way and that no call has found otherwise since; the end
-/// is hung up once the kernel told that the peer sends no more, or of an error.
+/// is hung up once the kernel told that the peer sends no more, or of an error. It is bulky if its last read filled the room
+/// that it was given.
 ///
 /// Own.
 #[derive(Drop)]
@@ -34,6 +35,7 @@ pub(crate) struct End {
     read_ready: bool,
     write_ready: bool,
     hung_up: bool,
+    bulky: bool,
     faults: u64,
 }
 
@@ -90,6 +92,7 @@ impl End {
             read_ready: false,
             write_ready: false,
             hung_up: false,
+            bulky: false,
             faults: 0,
         }
     }
@@ -103,6 +106,7 @@ impl End {
             read_ready: false,
             write_ready: true,
             hung_up: false,
+            bulky: false,
             faults: 0,
         }
     }
@@ -111,6 +115,12 @@ impl End {
         ensures { result ≡ self.now.read_ready }
     {
         self.read_ready
+    }
+
+    pub(crate) fn is_bulky(&self) -> bool
+        ensures { result ≡ self.now.bulky }
+    {
+        self.bulky
     }
 
     pub(crate) fn is_write_ready(&self) -> bool
@@ -148,7 +158,8 @@ impl End {
     {
         match attempt {
             Attempt::Moved(count) => {
-                self.read_ready = self.read_ready && (self.hung_up || count >= room);
+                self.bulky = count >= room;
+                self.read_ready = self.read_ready && (self.hung_up || self.bulky);
                 if count == 0 {
                     ReadAnswer::Ended
                 } else {
@@ -157,6 +168,7 @@ impl End {
             }
             Attempt::WouldBlock => {
                 self.read_ready = false;
+                self.bulky = false;
                 ReadAnswer::NotYet
             }
             Attempt::Interrupted | Attempt::Absent => ReadAnswer::NotYet,
@@ -245,5 +257,6 @@ impl End {
         self.connection = Connection::Closed;
         self.read_ready = false;
         self.write_ready = false;
+        self.bulky = false;
     }
 }

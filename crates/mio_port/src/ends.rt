@@ -1,7 +1,7 @@
 // The ends of all links, by their numbers, and the numbers of those that are ready. An end stays once it is made, and its
 // count of faults with it.
 ghost use Rattle.std.specs.Prelude.{◌≡◌, ◌<◌, ◌≤◌, ◌==◌, ◌+◌, ◌*◌, ℕ, [], None, Some, length, map, filter, slice_index_or, vec_len, OnOk};
-ghost use Rattle.std.specs.Prelude.{false, true, option_map, if◌then◌else◌};
+ghost use Rattle.std.specs.Prelude.{false, true, not, ◌&&◌, option_map, if◌then◌else◌};
 ghost use Rattle.std.specs.List.{list_any};
 ghost use Rattle.ev_port.specs.FaultCounts.{Counted};
 ghost use Rattle.ev_port.specs.Table.{RowsStay, is_marked, named};
@@ -11,10 +11,12 @@ ghost use Rattle.mio_port.specs.EndAnswers.{connection_of, connection_at, ReadBy
 ghost use Rattle.mio_port.specs.EndLeft.{LeftAt, PlaceLeft, ReadLeft, WriteLeft, CheckLeft};
 ghost use Rattle.mio_port.specs.PortCalls.{OthersStay};
 ghost use Rattle.mio_port.specs.OneEnd.{noticed_end, ended_end, closed_end};
-ghost use Rattle.mio_port.specs.EndPlaces.{faults_of, CountsStay, CountsAt, PlacesStay, PlaceWent, holds, is_made, is_read_ready};
-ghost use Rattle.mio_port.specs.EndPlaces.{is_write_ready, can_read, can_write, wants_ready, marked, unmarked};
+ghost use Rattle.mio_port.specs.EndPlaces.{faults_of, CountsStay, CountsAt, PlacesStay, PlaceWent, holds, is_made};
+ghost use Rattle.mio_port.specs.EndPlaces.{is_bulky, is_prompt, is_write_ready, can_read, can_write, wants_ready, marked, unmarked};
+ghost use Rattle.mio_port.specs.Turns.{marked_in_turn, marked_with, other_end, takes_turns, TurnWent};
 
 use crate::end::End;
+use crate::turn::{Turn, other_end, wants_at};
 use ev_port::{Want, WantTable};
 use ev_types::{ConnAnswer, ReadAnswer, Side, SideId, WriteAnswer};
 use mio::event::Event;
@@ -22,17 +24,21 @@ use number_set::NumberSet;
 use std::alloc::{AllocError, Global};
 
 /// The ends of all links: each link's In end at twice its number, and its Out end behind it. Beside them stand the numbers
-/// of the ends that are ready for reading, and of those that are ready for writing, so that a poll need not look at an end.
+/// of the ends that are ready for reading, those whose last read filled its room in a set of their own, and of those that are
+/// ready for writing, so that a poll need not look at an end.
 ///
 /// Own.
 #[derive(Drop)]
 pub(crate) struct Ends {
     ends: Vec<Option<End>>,
-    readable: NumberSet,
+    prompt: NumberSet,
+    bulky: NumberSet,
     writable: NumberSet,
-    ghost reads: { (n : ℕ) → readable.has n ≡ is_read_ready (slice_index_or ends.items n None) },
+    ghost prompts: { (n : ℕ) → prompt.has n ≡ is_prompt (slice_index_or ends.items n None) },
+    ghost bulks: { (n : ℕ) → bulky.has n ≡ is_bulky (slice_index_or ends.items n None) },
     ghost writes: { (n : ℕ) → writable.has n ≡ is_write_ready (slice_index_or ends.items n None) },
-    ghost read_room: { vec_len ends ≤ readable.len },
+    ghost prompt_room: { vec_len ends ≤ prompt.len },
+    ghost bulky_room: { vec_len ends ≤ bulky.len },
     ghost write_room: { vec_len ends ≤ writable.len },
 }
 
@@ -120,22 +126,59 @@ fn close_at(place: &mut Option<End>)
 // The sets of the numbers that are ready
 
 // An end may have changed: each set has its number where the end is ready now.
-fn keep_up(ends: &[Option<End>], number: usize, readable: &mut NumberSet, writable: &mut NumberSet)
-    requires read_room { number < readable.old.len }
+fn keep_up(
+    ends: &[Option<End>],
+    number: usize,
+    prompt: &mut NumberSet,
+    bulky: &mut NumberSet,
+    writable: &mut NumberSet,
+)
+    requires prompt_room { number < prompt.old.len }
+    requires bulky_room { number < bulky.old.len }
     requires write_room { number < writable.old.len }
-    ensures read_len { readable.new.len ≡ readable.old.len }
+    ensures prompt_len { prompt.new.len ≡ prompt.old.len }
+    ensures bulky_len { bulky.new.len ≡ bulky.old.len }
     ensures write_len { writable.new.len ≡ writable.old.len }
-    ensures reads { (n : ℕ) → readable.new.has n
-        ≡ (if n == number then is_read_ready (slice_index_or ends.now number None) else readable.old.has n) }
+    ensures prompts { (n : ℕ) → prompt.new.has n
+        ≡ (if n == number then is_prompt (slice_index_or ends.now number None) else prompt.old.has n) }
+    ensures bulks { (n : ℕ) → bulky.new.has n
+        ≡ (if n == number then is_bulky (slice_index_or ends.now number None) else bulky.old.has n) }
     ensures writes { (n : ℕ) → writable.new.has n
         ≡ (if n == number then is_write_ready (slice_index_or ends.now number None) else writable.old.has n) }
 {
-    let (can_read, can_write) = match ends.get(number) {
-        Some(Some(end)) => (end.is_read_ready(), end.is_write_ready()),
-        _ => (false, false),
+    let (can_read, is_bulky, can_write) = match ends.get(number) {
+        Some(Some(end)) => (end.is_read_ready(), end.is_bulky(), end.is_write_ready()),
+        _ => (false, false, false),
     };
-    readable.put(number, can_read);
+    prompt.put(number, can_read && !is_bulky);
+    bulky.put(number, can_read && is_bulky);
     writable.put(number, can_write);
+}
+
+// A bulky end that is ready, to whose peer nothing can be written.
+fn is_read_first(wants: &WantTable, who: usize, bulky: &NumberSet, writable: &NumberSet) -> bool
+    ensures { result ≡ (bulky.now.has who && not (wants.now.writes (other_end who) && writable.now.has (other_end who))) }
+{
+    if !bulky.contains(who) {
+        return false;
+    }
+    let other = other_end(who);
+    let (_read, write) = wants_at(wants, other);
+    !(write && writable.contains(other))
+}
+
+// Lists what can be done, as if the end with this number could be read too.
+fn mark_with(prompt: &mut NumberSet, writable: &NumberSet, who: usize, wants: &mut WantTable)
+    requires { who < prompt.old.len }
+    ensures len { prompt.new.len ≡ prompt.old.len }
+    ensures has { (n : ℕ) → prompt.new.has n ≡ prompt.old.has n }
+    ensures rows { RowsStay wants.old wants.new }
+    ensures list { wants.new.list ≡ filter is_marked (map (marked_with prompt.old writable.now who) (named wants.old)) }
+{
+    let was = prompt.contains(who);
+    prompt.insert(who);
+    wants.mark_ready(prompt, writable);
+    prompt.put(who, was);
 }
 
 impl Ends {
@@ -144,7 +187,8 @@ impl Ends {
     {
         Ends {
             ends: Vec::new(alloc),
-            readable: NumberSet::new(alloc),
+            prompt: NumberSet::new(alloc),
+            bulky: NumberSet::new(alloc),
             writable: NumberSet::new(alloc),
         }
     }
@@ -170,7 +214,8 @@ impl Ends {
     {
         let needed = out_end(link).number() + 1;
         let missing = needed.saturating_sub(self.ends.len());
-        self.readable.lengthen(needed)?;
+        self.prompt.lengthen(needed)?;
+        self.bulky.lengthen(needed)?;
         self.writable.lengthen(needed)?;
         self.ends.reserve(missing)?;
         for _place in 0..missing {
@@ -194,9 +239,21 @@ impl Ends {
         let near = in_end(link).number();
         let far = out_end(link).number();
         self.ends[near] = Some(inside);
-        keep_up(&self.ends, near, &mut self.readable, &mut self.writable);
+        keep_up(
+            &self.ends,
+            near,
+            &mut self.prompt,
+            &mut self.bulky,
+            &mut self.writable,
+        );
         self.ends[far] = Some(outside);
-        keep_up(&self.ends, far, &mut self.readable, &mut self.writable);
+        keep_up(
+            &self.ends,
+            far,
+            &mut self.prompt,
+            &mut self.bulky,
+            &mut self.writable,
+        );
     }
 
     /// What the kernel reported of the end with this number. Of an end that isn't there it tells nothing.
@@ -206,14 +263,21 @@ impl Ends {
     {
         if let Some(place) = self.ends.get_mut(number) {
             notice_at(place, event);
-            keep_up(&self.ends, number, &mut self.readable, &mut self.writable);
+            keep_up(
+                &self.ends,
+                number,
+                &mut self.prompt,
+                &mut self.bulky,
+                &mut self.writable,
+            );
         }
     }
 
     fn can_read(&self, want: Want) -> bool
         ensures { result ≡ can_read self.now.ends.items want }
     {
-        want.read && self.readable.contains(want.side.number())
+        let number = want.side.number();
+        want.read && (self.prompt.contains(number) || self.bulky.contains(number))
     }
 
     fn can_write(&self, want: Want) -> bool
@@ -244,15 +308,25 @@ impl Ends {
     pub(crate) fn is_any_of_table_ready(&self, wants: &WantTable) -> bool
         ensures { result ≡ list_any (wants_ready self.now.ends.items) (named wants.now) }
     {
-        wants.is_any_ready(&self.readable, &self.writable)
+        wants.is_any_ready(&self.prompt, &self.writable)
+            || wants.is_any_ready(&self.bulky, &self.writable)
     }
 
-    /// Lists in a table what it wants and can be done, with the marks, and nothing else. Only the sets are looked at.
-    pub(crate) fn mark_table(&self, wants: &mut WantTable)
+    /// Lists in a table what it wants and can be done, with the marks; of the bulky ends only that whose turn it is by now.
+    /// Only the sets are looked at.
+    pub(crate) fn mark_table(&mut self, turn: Turn, wants: &mut WantTable) -> Turn
+        ensures stays { self.new.ends ≡ self.old.ends }
         ensures rows { RowsStay wants.old wants.new }
-        ensures list { wants.new.list ≡ filter is_marked (map (marked self.now.ends.items) (named wants.old)) }
+        ensures turn { TurnWent (takes_turns wants.old self.old.ends.items) turn result }
+        ensures list { wants.new.list ≡ filter is_marked (map (marked_in_turn wants.old self.old.ends.items result.who) (named wants.old)) }
     {
-        wants.mark_ready(&self.readable, &self.writable);
+        let turn = turn.next(wants, &self.bulky);
+        if is_read_first(wants, turn.who, &self.bulky, &self.writable) {
+            mark_with(&mut self.prompt, &self.writable, turn.who, wants);
+        } else {
+            wants.mark_ready(&self.prompt, &self.writable);
+        }
+        turn
     }
 
     fn marked(&self, want: Want) -> Want
@@ -277,7 +351,13 @@ impl Ends {
             return ReadAnswer::NotYet;
         };
         let answer = read_at(place, into);
-        keep_up(&self.ends, number, &mut self.readable, &mut self.writable);
+        keep_up(
+            &self.ends,
+            number,
+            &mut self.prompt,
+            &mut self.bulky,
+            &mut self.writable,
+        );
         answer
     }
 
@@ -293,7 +373,13 @@ impl Ends {
             return WriteAnswer::NotYet;
         };
         let answer = write_at(place, from);
-        keep_up(&self.ends, number, &mut self.readable, &mut self.writable);
+        keep_up(
+            &self.ends,
+            number,
+            &mut self.prompt,
+            &mut self.bulky,
+            &mut self.writable,
+        );
         answer
     }
 
@@ -307,7 +393,13 @@ impl Ends {
             return ConnAnswer::Pending;
         };
         let answer = check_at(place);
-        keep_up(&self.ends, number, &mut self.readable, &mut self.writable);
+        keep_up(
+            &self.ends,
+            number,
+            &mut self.prompt,
+            &mut self.bulky,
+            &mut self.writable,
+        );
         answer
     }
 
@@ -320,7 +412,13 @@ impl Ends {
             return;
         };
         close_write_at(place);
-        keep_up(&self.ends, number, &mut self.readable, &mut self.writable);
+        keep_up(
+            &self.ends,
+            number,
+            &mut self.prompt,
+            &mut self.bulky,
+            &mut self.writable,
+        );
     }
 
     pub(crate) fn close(&mut self, side: SideId)
@@ -332,7 +430,13 @@ impl Ends {
             return;
         };
         close_at(place);
-        keep_up(&self.ends, number, &mut self.readable, &mut self.writable);
+        keep_up(
+            &self.ends,
+            number,
+            &mut self.prompt,
+            &mut self.bulky,
+            &mut self.writable,
+        );
     }
 }
 

@@ -14,5 +14,7 @@ mod scarce;
 mod socket;
 mod socket_call;
 mod socket_log;
+mod turn;
 
 pub use mio_port::MioPort;
+pub use turn::each_has_its_turn;

@@ -21,7 +21,8 @@ ghost use Rattle.mio_port.specs.OneEnd.{ended_end, closed_end};
 ghost use Rattle.mio_port.specs.EndPlaces.{PlacesStay, PlaceWent, wants_ready};
 ghost use Rattle.mio_port.specs.Asking.{PollLooked};
 ghost use Rattle.mio_port.specs.PollLeft.{PollLeft};
-ghost use Rattle.mio_port.specs.PortCalls.{Listens, Marked, MarkedTable, Accepts, MadeLink, AcceptorAsked};
+ghost use Rattle.mio_port.specs.PortCalls.{Listens, Marked, Accepts, MadeLink, AcceptorAsked};
+ghost use Rattle.mio_port.specs.Turns.{MarkedTable, SomeMarked};
 ghost use Rattle.mio_port.specs.PortFaults.{IsFaultless, mio_faults, vouches_nothing, waits_untold};
 
 mod linking;
@@ -31,6 +32,7 @@ use crate::acceptor::{Acceptor, socket_addr};
 use crate::clock::SteadyClock;
 use crate::ends::Ends;
 use crate::kernel::Kernel;
+use crate::turn::Turn;
 use ev_port::{
     Accepted, Addr, ConnAnswer, Polled, Port, ReadAnswer, Started, Want, WantTable, WriteAnswer,
 };
@@ -73,6 +75,7 @@ pub struct MioPort<'a, R> {
     kernel: Option<Kernel>,
     acceptor: Acceptor,
     ends: Ends,
+    turn: Turn,
     polling_faults: u64,
 }
 
@@ -85,6 +88,7 @@ impl<'a, R: Net + Clock + AllocGlobal> MioPort<'a, R> {
         ensures ends { result.ends.ends.items ≡ [] }
         ensures kernel { result.kernel ≡ None }
         ensures clock { result.clock.last ≡ 0 }
+        ensures turn { (result.turn.who ≡ 0) × (result.turn.left ≡ 0) }
     {
         MioPort {
             rt,
@@ -92,6 +96,7 @@ impl<'a, R: Net + Clock + AllocGlobal> MioPort<'a, R> {
             kernel: None,
             acceptor: Acceptor::new(),
             ends: Ends::new(rt.alloc()),
+            turn: Turn::new(),
             polling_faults: 0,
         }
     }
@@ -113,6 +118,7 @@ impl<'a, R: Net + Clock + AllocGlobal> MioPort<'a, R> {
         ensures quiet { self.new.acceptor.ready ≡ false }
         ensures unpaused { self.new.acceptor.paused_to ≡ None }
         ensures clock { self.new.clock ≡ self.old.clock }
+        ensures turn { self.new.turn ≡ self.old.turn }
     {
         self.acceptor.shut();
         let mut kernel = match self.kernel.take() {
@@ -138,8 +144,10 @@ impl<'a, R: Net + Clock + AllocGlobal> MioPort<'a, R> {
 /// - `poll` is `Failed`, at the count of polling, before the first start and where the kernel refuses to wait; then nothing
 ///   is marked. A wait that a signal interrupts is ready for nothing. A timeout is in milliseconds, `None` is for ever, and
 ///   more than 24 days are cut to that.
-/// - `poll_table` marks what `poll` would mark of the same wants, and waits as long. It doesn't go over the wants: it joins
-///   the table's sets of numbers and the port's, so what is wanted and isn't ready costs one word in 64 numbers.
+/// - `poll_table` marks what `poll` would mark of the same wants, but of the ends whose last read filled its room at most
+///   one for reading, in turns of 64 polls, and not while what waits for its peer can be written. It waits as long. It
+///   doesn't go over the wants: it joins the table's sets of numbers and the port's, so what is wanted and isn't ready
+///   costs one word in 64 numbers.
 /// - `accept` makes both ends with `TCP_NODELAY`. The Out end is never connected yet: its check decides, also where its
 ///   connection couldn't be begun. `NoMemory` comes before anything is accepted. `NotYet` comes for a link that was
 ///   accepted before, where none waits, where one went before it was taken, and where the system is short of
@@ -149,6 +157,8 @@ impl<'a, R: Net + Clock + AllocGlobal> MioPort<'a, R> {
 /// - `connect_state` is `Failed`, at the end's count, for a connection that was refused or that broke, and stays so.
 /// - `read` and `write` are `NotYet` where they would block or were interrupted, and at an end that was closed or never
 ///   made; a write that takes no byte is `Failed`, as is every other error. No signal comes of a peer that is gone.
+/// - `stop_accepting` closes the listener: a client that comes from then on is refused, and one that was not accepted yet is
+///   cut off.
 /// - `close_write` ignores what the system says, and `close` drops the socket with all that wasn't read.
 impl<'a, R: Net + Clock + AllocGlobal> Port for MioPort<'a, R> {
     ghost use Rattle.std.specs.Prelude.{⊤};
@@ -171,6 +181,7 @@ impl<'a, R: Net + Clock + AllocGlobal> Port for MioPort<'a, R> {
         ensures unpaused { self.new.acceptor.paused_to ≡ None }
         ensures stays { self.new.ends ≡ self.old.ends }
         ensures clock { self.new.clock ≡ self.old.clock }
+        ensures turn { self.new.turn ≡ self.old.turn }
 
         // What every port says.
         ensures cause { ListenerFaults (mio_faults self.old) (mio_faults self.new) (is_failed_start result) }
@@ -205,6 +216,7 @@ impl<'a, R: Net + Clock + AllocGlobal> Port for MioPort<'a, R> {
 
     fn poll(&mut self, wants: &mut [Want], accept: bool, timeout: Option<u64>) -> Polled
         ensures marks { Marked self.new.ends.ends.items wants.old wants.new result }
+        ensures turn { self.new.turn ≡ self.old.turn }
         ensures accepts { Accepts self.new.acceptor accept result }
         ensures left { PollLeft self.old self.new result }
         ensures looked { PollLooked (list_any (wants_ready self.old.ends.ends.items) wants.old) accept timeout self.old self.new result }
@@ -222,7 +234,8 @@ impl<'a, R: Net + Clock + AllocGlobal> Port for MioPort<'a, R> {
     }
 
     fn poll_table(&mut self, wants: &mut WantTable, accept: bool, timeout: Option<u64>) -> Polled
-        ensures marks { MarkedTable self.new.ends.ends.items wants.old wants.new result }
+        ensures marks { MarkedTable self.new.ends.ends.items self.old.turn self.new.turn wants.old wants.new result }
+        ensures some { SomeMarked self.new.ends.ends.items wants.old wants.new result }
         ensures accepts { Accepts self.new.acceptor accept result }
         ensures left { PollLeft self.old self.new result }
         ensures looked { PollLooked (list_any (wants_ready self.old.ends.ends.items) (named wants.old)) accept timeout self.old self.new result }
@@ -243,6 +256,7 @@ impl<'a, R: Net + Clock + AllocGlobal> Port for MioPort<'a, R> {
         ensures ends_made { NewEnds self.new.ends.ends.items self.old.acceptor.target link result }
         ensures listener { AcceptorAsked self.old.acceptor self.new.acceptor self.new.clock.last result }
         ensures steady { self.old.clock.last ≤ self.new.clock.last }
+        ensures turn { self.new.turn ≡ self.old.turn }
 
         // What every port says.
         ensures cause { ListenerFaults (mio_faults self.old) (mio_faults self.new) (is_failed_accept result) }
@@ -338,6 +352,18 @@ impl<'a, R: Net + Clock + AllocGlobal> Port for MioPort<'a, R> {
     {
         self.ends.close(end);
         self.acceptor.end_pause();
+    }
+
+    fn stop_accepting(&mut self)
+        ensures shut { self.new ≡ record self.old { acceptor = shut_acceptor self.old.acceptor.faults } }
+
+        // What every port says.
+        ensures cause { FaultsStay (mio_faults self.old) (mio_faults self.new) }
+        ensures ends { AllWent silent_end silent_end (λ _. no_step) }
+        ensures told { PortStays silent_port silent_port }
+        ensures vouched { LongerBy (vouches_nothing self.old) (vouches_nothing self.new) [] }
+    {
+        self.acceptor.shut();
     }
 
     ghost waits_no_more = { λ plan t u quiet waits. waits };

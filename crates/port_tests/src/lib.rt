@@ -20,3 +20,5 @@ mod steps;
 mod streams;
 #[cfg(test)]
 mod tables;
+#[cfg(test)]
+mod turns;

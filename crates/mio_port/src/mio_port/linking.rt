@@ -29,6 +29,7 @@ impl<R: Net + Clock + AllocGlobal> MioPort<'_, R> {
         ensures paused { self.new.acceptor ≡ paused_acceptor self.old.acceptor self.new.clock.last }
         ensures steady { self.old.clock.last ≤ self.new.clock.last }
         ensures ends { self.new.ends ≡ self.old.ends }
+        ensures turn { self.new.turn ≡ self.old.turn }
     {
         let time = self.clock.read(self.rt);
         self.acceptor.pause(time.saturating_add(SCARCE_PAUSE));
@@ -40,6 +41,7 @@ impl<R: Net + Clock + AllocGlobal> MioPort<'_, R> {
         ensures made { IsNewPair link self.old.acceptor.target result }
         ensures clock { self.new.clock ≡ self.old.clock }
         ensures ends { self.new.ends ≡ self.old.ends }
+        ensures turn { self.new.turn ≡ self.old.turn }
         ensures acceptor { self.new.acceptor ≡ self.old.acceptor }
         ensures polling { self.new.polling_faults ≡ self.old.polling_faults }
     {
@@ -68,6 +70,7 @@ impl<R: Net + Clock + AllocGlobal> MioPort<'_, R> {
         ensures listener { self.new.acceptor ≡ refused_acceptor self.old.acceptor why self.new.clock.last }
         ensures steady { self.old.clock.last ≤ self.new.clock.last }
         ensures ends { self.new.ends ≡ self.old.ends }
+        ensures turn { self.new.turn ≡ self.old.turn }
     {
         match why {
             NoLink::NoneWaits => self.acceptor.ran_out(),

@@ -9,8 +9,9 @@ ghost use Rattle.mio_port.specs.EndLeft.{AllHeard};
 ghost use Rattle.mio_port.specs.EndPlaces.{wants_ready};
 ghost use Rattle.mio_port.specs.Asking.{Looked, PollLooked};
 ghost use Rattle.mio_port.specs.PollLeft.{PollLeft};
-ghost use Rattle.mio_port.specs.PortCalls.{Marked, MarkedTable, Accepts};
+ghost use Rattle.mio_port.specs.PortCalls.{Marked, Accepts};
 ghost use Rattle.mio_port.specs.PortFaults.{mio_faults};
+ghost use Rattle.mio_port.specs.Turns.{MarkedTable, SomeMarked};
 
 use super::MioPort;
 use crate::ends::unmark;
@@ -29,6 +30,7 @@ impl<R: Net + Clock + AllocGlobal> MioPort<'_, R> {
         timeout: Option<u64>,
     ) -> Polled
         ensures marked { Marked self.new.ends.ends.items wants.old wants.new result }
+        ensures turn { self.new.turn ≡ self.old.turn }
         ensures left { PollLeft self.old self.new result }
         ensures asked { Accepts self.new.acceptor accept result }
         ensures cause { PollFaults (mio_faults self.old) (mio_faults self.new) (is_failed_poll result) }
@@ -50,7 +52,8 @@ impl<R: Net + Clock + AllocGlobal> MioPort<'_, R> {
         accept: bool,
         timeout: Option<u64>,
     ) -> Polled
-        ensures marked { MarkedTable self.new.ends.ends.items wants.old wants.new result }
+        ensures marked { MarkedTable self.new.ends.ends.items self.old.turn self.new.turn wants.old wants.new result }
+        ensures some { SomeMarked self.new.ends.ends.items wants.old wants.new result }
         ensures left { PollLeft self.old self.new result }
         ensures rows { RowsStay wants.old wants.new }
         ensures asked { Accepts self.new.acceptor accept result }
@@ -60,7 +63,7 @@ impl<R: Net + Clock + AllocGlobal> MioPort<'_, R> {
         let is_any = self.ends.is_any_of_table_ready(wants);
         let polled = self.wait(is_any, accept, timeout);
         match polled {
-            Polled::Ready { .. } => self.ends.mark_table(wants),
+            Polled::Ready { .. } => self.turn = self.ends.mark_table(self.turn, wants),
             Polled::Failed => wants.unmark(),
         }
         polled
@@ -79,6 +82,7 @@ impl<R: Net + Clock + AllocGlobal> MioPort<'_, R> {
         ensures asked { Accepts self.new.acceptor accept result }
         ensures cause { PollFaults (mio_faults self.old) (mio_faults self.new) (is_failed_poll result) }
         ensures looked { PollLooked is_any_ready accept timeout self.old self.new result }
+        ensures turn { self.new.turn ≡ self.old.turn }
     {
         let pause = self.pause_left();
         let is_any = self.is_any_asked(is_any_ready, accept);
@@ -99,6 +103,7 @@ impl<R: Net + Clock + AllocGlobal> MioPort<'_, R> {
         ensures listener { self.new.acceptor ≡ record self.old.acceptor { ready = self.new.acceptor.ready } }
         ensures waits { self.old.acceptor.ready ≡ true → self.new.acceptor.ready ≡ true }
         ensures clock { self.new.clock ≡ self.old.clock }
+        ensures turn { self.new.turn ≡ self.old.turn }
         ensures unstarted { is_none self.old.kernel ≡ true → result ≡ false }
 
         // Whether it was asked, for how long at most, and exactly what it told.
@@ -127,6 +132,7 @@ impl<R: Net + Clock + AllocGlobal> MioPort<'_, R> {
         ensures faults { self.new.acceptor.faults ≡ self.old.acceptor.faults }
         ensures polling { self.new.polling_faults ≡ self.old.polling_faults }
         ensures ends { self.new.ends ≡ self.old.ends }
+        ensures turn { self.new.turn ≡ self.old.turn }
     {
         let to = self.acceptor.pause_end()?;
         let time = self.clock.read(self.rt);

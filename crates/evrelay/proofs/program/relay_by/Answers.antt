@@ -1,6 +1,5 @@
-use Rattle.std.proofs.Common.{List, map, string_bytes, refl, inr, [], subst}
+use Rattle.std.proofs.Common.{List, map, string_bytes, refl, [], subst}
 use Rattle.ev_types.specs.Trace.{Trace}
-use Rattle.ev_types.specs.declared.entry.Entry.{Entry}
 use Rattle.ev_types.specs.declared.side.SideId.{SideId}
 use Rattle.ev_types.specs.declared.status.Status.TheVariants as status
 use Rattle.command_words.specs.ServeGrammar.{serve_words_of}
@@ -9,8 +8,8 @@ use Rattle.relay_drive.specs.Seats.{seated_sides}
 use Rattle.relay_serve.specs.Seen.{drained}
 use Rattle.relay_serve.specs.Served.{DidWith}
 use Rattle.relay_serve.proofs.EndLemmas.{words-ended}
-use Rattle.evrelay.specs.Program.{seen_by, Says}
-use Rattle.evrelay.proofs.ProgramLemmas.{none-seated}
+use Rattle.evrelay.specs.Program.{seen_by}
+use Rattle.evrelay.proofs.ProgramLemmas.{none-seated, says-line}
 use Rattle.evrelay.proofs.program.relay_by.Goals as goal
 
 -- There is no memory for the ring, and nothing was done.
@@ -23,7 +22,7 @@ returns-in_default g c = record {
     words-ended (serve_words_of (map string_bytes c.args.words.now)) [] words.Memory (seen_by g.P.Port c.args.port.now [])
         (drained g.K.Sink c.args.sink.now) (λ e. absurd (cc)),
     ((λ e. refl), (λ e. refl)),
-    inr (inr c.finish.ensures.line),
+    says-line status.Memory [] _ _ _ _ refl c.finish.ensures.line,
     (λ e. absurd (cc)),
   );
 }
@@ -39,8 +38,6 @@ returns g c =
     let now = seen_by port c.serve-ended.new.port ring.told.trace in
     let before = drained g.K.Sink c.args.sink.now in
     let after = drained g.K.Sink c.serve-ended.new.sink in
-    let taken = g.E.Sink.taken in
-    let faults = g.E.Sink.faults in
     record {
       served = (
         ended,
@@ -51,8 +48,7 @@ returns g c =
             (subst (λ (t : Trace). DidWith route hooks ended (seen_by port c.args.port.now t) now before after)
             c.in-Ok.ensures c.serve-ended.ensures.did),
         (c.serve-ended.ensures.unwritten, c.serve-ended.ensures.write_calm),
-        subst (λ (es : List Entry). Says ended es (taken c.args.errors.now) (taken c.say.new.errors) (faults c.args.errors.now) (faults c.say.new.errors))
-            ring.kept c.say.ensures.said,
+        c.say.ensures.said,
         (λ e. let left = c.serve-ended.ensures.untouched e in (left.0, left.2)),
       );
     }

@@ -1,11 +1,21 @@
-use Rattle.std.proofs.Common.{◌∙◌, ap, map}
+use Rattle.std.proofs.Common.{◌∙◌, map, sym, ap}
 use Rattle.std.specs.Prelude.{filter}
 use Rattle.ev_port.specs.Table.{is_marked, named}
-use Rattle.mio_port.proofs.TableMarkLemmas.{marked_by-ends}
+use Rattle.mio_port.proofs.TableMarkLemmas.{marked-left, marked-turn}
 use Rattle.mio_port.proofs.ends.Ends.mark_table.Goals as goal
 
-pub returns-clause-list : goal.returns-clause-list
-returns-clause-list c =
+pub returns-then-is_read_first-clause-list : goal.returns-then-is_read_first-clause-list
+returns-then-is_read_first-clause-list c =
     let ends = c.args.self.now in
-    let same = marked_by-ends ends.ends.items ends.readable ends.writable ends.reads ends.writes in
-    c.mark_ready.ensures.list ∙ ap (λ mark. filter is_marked (map mark (named c.args.wants.now))) same
+    let wants = c.args.wants.now in
+    let same = marked-turn wants ends.ends.items ends.prompt ends.bulky ends.writable c.next-turn.result.who ends.prompts ends.bulks ends.writes
+    (sym c.is_read_first.ensures ∙ c.if-is_read_first.true) in
+    c.mark_with.ensures.list ∙ ap (λ mark. filter is_marked (map mark (named wants))) same
+
+pub returns-else-is_read_first-clause-list : goal.returns-else-is_read_first-clause-list
+returns-else-is_read_first-clause-list c =
+    let ends = c.args.self.now in
+    let wants = c.args.wants.now in
+    let same = marked-left wants ends.ends.items ends.prompt ends.bulky ends.writable c.next-turn.result.who ends.prompts ends.bulks ends.writes
+    (sym c.is_read_first.ensures ∙ c.if-is_read_first.false) in
+    c.mark_ready.ensures.list ∙ ap (λ mark. filter is_marked (map mark (named wants))) same

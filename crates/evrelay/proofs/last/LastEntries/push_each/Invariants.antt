@@ -1,10 +1,11 @@
 use Rattle.std.proofs.Common.{◌*◌, ◌-◌}
+use Rattle.evrelay.specs.RingWants.{last_of}
 use Rattle.evrelay.proofs.RingWantsLemmas.{PutSoFar}
-use Rattle.evrelay.proofs.ring.put_last.Given as goal
+use Rattle.evrelay.proofs.last.LastEntries.push_each.Given as goal
 
--- The wants from the start on are put.
+-- The wants before this number are put.
 abbrev pub invariant-loop-want : goal.invariant-loop-want
-invariant-loop-want l = PutSoFar l.wants l.initial.from l.from l.fn.entries l.entries
+invariant-loop-want l = PutSoFar l.wants l.from (last_of l.fn.self) (last_of l.self)
 
 abbrev pub decreases-loop-want : goal.decreases-loop-want
 decreases-loop-want l = 2 * l.wants.links - l.from

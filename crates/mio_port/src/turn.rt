@@ -1,0 +1,114 @@
+// Bulky ends are read in turns: those whose last read filled its room. What a poll marks by that stands beside the ends.
+ghost use Rattle.std.specs.Prelude.{◌≡◌, ℕ, ◌+◌, ◌^◌, ◌<◌, ◌≤◌, ◌&&◌, IfSome};
+ghost use Rattle.number_set.specs.Next.{IsNext};
+ghost use Rattle.mio_port.specs.Turns.{in_turn, other_end, EachHasItsTurn, GoesTo, TurnWent};
+
+use ev_port::WantTable;
+use number_set::NumberSet;
+
+/// For so many polls an end keeps its turn. Fewer leave what it read to the processor's caches before it is written, and more
+/// let the others wait.
+const POLLS: u32 = 64;
+
+/// The number of the end whose turn it is to be read, and for how many polls more it may be.
+///
+/// Own.
+#[derive(Clone, Copy, Debug, PartialEq, Eq)]
+pub(crate) struct Turn {
+    pub(crate) who: usize,
+    left: u32,
+}
+
+impl Turn {
+    /// Nobody had a turn yet.
+    pub(crate) fn new() -> Turn
+        ensures who { result.who ≡ 0 }
+        ensures left { result.left ≡ 0 }
+    {
+        Turn { who: 0, left: 0 }
+    }
+
+    /// The turn at the next poll of a table, by the numbers of the bulky ends that are ready.
+    pub(crate) fn next(self, wants: &WantTable, bulky: &NumberSet) -> Turn
+        ensures { TurnWent (in_turn wants.now bulky.now) self result }
+    {
+        if self.left > 0 && is_in_turn(wants, bulky, self.who) {
+            return Turn {
+                left: self.left - 1,
+                ..self
+            };
+        }
+        match next_in_round(wants, bulky, self.who) {
+            Some(who) => Turn {
+                who,
+                left: POLLS - 1,
+            },
+            None => Turn { left: 0, ..self },
+        }
+    }
+}
+
+/// A bulky end that is wanted and ready has its turn within 64 polls for each side: its wait is no longer, whoever else comes
+/// and goes. A law about turns; it does nothing.
+///
+/// Own.
+pub fn each_has_its_turn()
+    ensures { EachHasItsTurn }
+{}
+
+/// The number of the other end of the link.
+pub(crate) fn other_end(number: usize) -> usize
+    ensures { result ≡ other_end number }
+{
+    if number % 2 == 0 {
+        number + 1
+    } else {
+        number - 1
+    }
+}
+
+/// Whether the side with this number wants to read, and to write. Where it wants something no other side is looked at.
+pub(crate) fn wants_at(wants: &WantTable, number: usize) -> (bool, bool)
+    ensures read { result.0 ≡ wants.now.reads number }
+    ensures write { result.1 ≡ wants.now.writes number }
+{
+    if number >= 2 * wants.links() as usize {
+        return (false, false);
+    }
+    match wants.previous_wanted(number + 1) {
+        Some(want) if want.side.number() == number => (want.read, want.write),
+        _ => (false, false),
+    }
+}
+
+fn is_in_turn(wants: &WantTable, bulky: &NumberSet, number: usize) -> bool
+    ensures { result ≡ in_turn wants.now bulky.now number }
+{
+    bulky.contains(number) && wants_at(wants, number).0
+}
+
+/// The first from a number on that takes turns.
+fn first_in_turn(wants: &WantTable, bulky: &NumberSet, from: usize) -> Option<usize>
+    ensures next { IsNext (in_turn wants.now bulky.now) from result }
+    ensures small { IfSome result (λ n. n + 1 < 2 ^ 64) }
+{
+    let mut at = from;
+    while let Some(number) = bulky.next(at) {
+        if is_in_turn(wants, bulky, number) {
+            return Some(number);
+        }
+        at = number + 1;
+    }
+    None
+}
+
+/// The first behind a number that takes turns, or the first of all.
+fn next_in_round(wants: &WantTable, bulky: &NumberSet, who: usize) -> Option<usize>
+    ensures { GoesTo (in_turn wants.now bulky.now) who result }
+{
+    let first = first_in_turn(wants, bulky, 0)?;
+    match first_in_turn(wants, bulky, who.saturating_add(1)) {
+        Some(behind) => Some(behind),
+        None => Some(first),
+    }
+}

@@ -1,0 +1,102 @@
+// Bulky ends over loopback: they are read in turns, and not before what can be written to their peer.
+use crate::acts::{IN_0, OUT_0, READING, WRITING, want};
+use crate::loopback::{RealPort, World, is_marked, new_world};
+use ev_port::{Polled, Port, ReadAnswer, Want, WantTable};
+use ev_types::SideId;
+use std::alloc::Global;
+use std::io::Write;
+use std::test::Fail;
+
+/// An end keeps its turn for so many polls.
+const POLLS: u32 = 64;
+
+const READS_IN: Want = Want {
+    side: IN_0,
+    read: true,
+    write: false,
+    can_read: true,
+    can_write: false,
+};
+
+const READS_OUT: Want = Want {
+    side: OUT_0,
+    ..READS_IN
+};
+
+/// What comes to an end is more than the room of a read.
+fn reads_full(port: &mut RealPort<'_>, end: SideId) -> bool {
+    is_marked(port, end, READING) && port.read(end, &mut [0; 8]) == ReadAnswer::Got(8)
+}
+
+/// Each of so many polls lists this want and no other.
+fn lists(port: &mut RealPort<'_>, table: &mut WantTable, owed: Want, polls: u32) -> bool {
+    for _ in 0..polls {
+        let polled = port.poll_table(table, false, Some(0));
+        let is_owed = matches!(table.list(), [only] if *only == owed);
+        if polled != (Polled::Ready { accept: false }) || !is_owed {
+            return false;
+        }
+    }
+    true
+}
+
+/// A table of a link of which both sides want to read.
+fn reading(alloc: Global) -> Result<WantTable, Fail> {
+    let mut table = WantTable::new(alloc);
+    table.push_link()?;
+    table.set(IN_0, true, false);
+    table.set(OUT_0, true, false);
+    Ok(table)
+}
+
+/// Both ends get more than they are read for.
+fn sends_both(world: &mut World<'_>) -> Result<bool, Fail> {
+    let Some(far) = &mut world.far else {
+        return Err(Fail::new("the far end went"));
+    };
+    world.near.write_all(&[0; 20])?;
+    far.write_all(&[0; 20])?;
+    Ok(reads_full(&mut world.port, IN_0) && reads_full(&mut world.port, OUT_0))
+}
+
+/// Whether each of two bulky ends has its turn, one alone has all, and an end whose read came short needs none.
+fn takes_turns(port: &mut RealPort<'_>, table: &mut WantTable) -> [bool; 5] {
+    let first = lists(port, table, READS_OUT, POLLS);
+    let second = lists(port, table, READS_IN, POLLS);
+    let again = lists(port, table, READS_OUT, 1);
+    table.set(OUT_0, false, false);
+    let alone = lists(port, table, READS_IN, 2 * POLLS);
+    table.set(OUT_0, true, false);
+    port.read(OUT_0, &mut [0; 16]);
+    let short = lists(port, table, READS_IN, 2 * POLLS);
+    [first, second, again, alone, short]
+}
+
+/// Whether a write that can be done is listed alone, and behind it what has the turn.
+fn drains_first(port: &mut RealPort<'_>, table: &mut WantTable) -> [bool; 2] {
+    let writes = want((OUT_0, WRITING, WRITING));
+    table.set(OUT_0, false, true);
+    let drains = lists(port, table, writes, POLLS);
+    table.set(OUT_0, false, false);
+    [drains, lists(port, table, READS_IN, 1)]
+}
+
+fn plays(
+    world: &mut World<'_>,
+    table: &mut WantTable,
+) -> Result<(bool, [bool; 5], [bool; 2]), Fail> {
+    let is_bulky = sends_both(world)?;
+    let turns = takes_turns(&mut world.port, table);
+    Ok((is_bulky, turns, drains_first(&mut world.port, table)))
+}
+
+#[test]
+fn bulky_ends_are_read_in_turns(rt: HostRuntime) -> Result<(), Fail> {
+    let mut table = reading(rt.alloc())?;
+    let mut world = new_world(&rt)?;
+    let played = plays(&mut world, &mut table);
+    drop(world);
+    drop(table);
+    assert_eq!(rt; played?, (true, [true; 5], [true; 2]));
+    Ok(())
+}
