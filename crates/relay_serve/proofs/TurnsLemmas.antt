@@ -1,11 +1,16 @@
 -- Turns in a row: none, one more, and one that is cut off.
-use Rattle.std.proofs.Common.{◌≡◌, ◌≢◌, ◌⊎◌, inl, inr, ℕ, ◌+◌, ◌-◌, ◌^◌, min, Bool, true, false, List, [], ◌++◌, refl, sym, ◌∙◌, ap, subst}
-use Rattle.std.proofs.Common.{append-nil, count_by, arith, Result, Err, Option, None}
-use Rattle.std.specs.Prelude.{⊤}
+use Rattle.std.proofs.Common.{◌≡◌, ◌≢◌, ◌⊎◌, inl, inr, ℕ, zero, suc, ◌+◌, ◌-◌, ◌^◌, ◌<◌, ◌≤◌, ◌==◌, ◌&&◌, not, min, Bool, true, false, List}
+use Rattle.std.proofs.Common.{[], ◌++◌, refl, sym, ◌∙◌, ap, subst, if◌then◌else◌, nat_lt}
+use Rattle.std.proofs.Common.{append-nil, count_by, arith, Result, Err, Option, Some, None}
+use Rattle.std.proofs.lemmas.Bool.{and_parts, eqb-true, eqb-false, ltb-true, ltb-false, not-true, not-false}
+use Rattle.std.specs.Prelude.{⊤, MatchOption, IsSome}
 use Rattle.ev_types.specs.declared.plan_line.PlanLine.{PlanLine}
 use Rattle.ev_types.specs.declared.side.SideId.{SideId}
 use Rattle.ev_types.specs.Growth.{Grew}
-use Rattle.ev_types.specs.Told.{EndTold, PortTold}
+use Rattle.ev_types.specs.Told.{EndTold, PortTold, Stays}
+use Rattle.ev_types.specs.declared.status.LinkState.TheVariants as state
+use Rattle.ev_port.specs.EndSteps.{AllWent, PortStays, no_step}
+use Rattle.ev_port.specs.Faults.{Faults, FaultsStay}
 use Rattle.ev_types.specs.Trace.{Trace}
 use Rattle.ev_port.specs.declared.port.Port as port
 use Rattle.ev_port.specs.declared.scribe.Scribe as scribe
@@ -13,14 +18,19 @@ use Rattle.relay_model.specs.Answers.{TurnAnswer}
 use Rattle.relay_model.specs.RatesKept.{is_turn}
 use Rattle.relay_model.specs.Settings.{Settings, settings_with}
 use Rattle.relay_model.specs.Stages.{Stage}
-use Rattle.relay_model.specs.Tied.{IsTied}
-use Rattle.relay_model.proofs.TiedLemmas.{nothing_is_tied}
+use Rattle.relay_model.specs.Tied.{IsTied, PortTied, EndTied}
+use Rattle.relay_model.specs.Totals.{opened}
+use Rattle.relay_model.proofs.TiedLemmas.{nothing_is_tied, end_ties_join}
 use Rattle.ev_types.specs.declared.settings.Settings as code
 use Rattle.relay_state.specs.State.{State}
+use Rattle.relay_state.specs.Closing.{in_side, out_side}
+use Rattle.relay_state.specs.Counting.{open_below}
 use Rattle.relay_steps.specs.Meaning.{HasItsGroups, StandsFor, LeftFor}
+use Rattle.relay_laws.specs.Links.{LinksAre, lives_in, living_below, is_done, link_state_in}
 use Rattle.relay_laws.specs.Relayed.{StoodBetween}
 use Rattle.relay_laws.specs.TurnEnds.{AtTurnEnds}
-use Rattle.relay_laws.proofs.LawLemmas.{new_relay_stands}
+use Rattle.relay_laws.proofs.LawLemmas.{new_relay_stands, told}
+use Rattle.relay_laws.proofs.LinkLemmas.{links_are_told, left-recorded}
 use Rattle.relay_laws.proofs.RelayedLemmas.{stood-at}
 use Rattle.relay_laws.proofs.TurnEndLemmas.{ends-none, ends-grow}
 use Rattle.relay_drive.specs.declared.fault.DriveFault.{DriveFault}
@@ -29,18 +39,22 @@ use Rattle.relay_drive.specs.declared.fault.TurnEnd.{TurnEnd}
 use Rattle.relay_drive.specs.declared.fault.TurnEnd.TheVariants as end
 use Rattle.relay_drive.specs.DriveStands.{DriveStands, DriveWent, StandsBetween, turn_answer_of, turn_end_of}
 use Rattle.relay_drive.specs.DriveValue.{DriveValue, is_worn}
-use Rattle.relay_drive.specs.Known.{Point, Question}
+use Rattle.relay_drive.specs.Advances.{Heard}
+use Rattle.relay_drive.specs.Known.{Point, Question, IsClosedSince}
 use Rattle.relay_drive.specs.Seats.{Telling, HooksTell, AreFresh}
 use Rattle.relay_drive.specs.Moves.{knows}
 use Rattle.relay_drive.specs.Phases.{CutTurn, in_poll, CutPolling, is_open_fault}
 use Rattle.relay_drive.proofs.HookEvents.{asks_fit-none}
-use Rattle.relay_drive.proofs.GoesLemmas.{Grew-none, Grew-join, Heard-none, Heard-join}
+use Rattle.relay_drive.proofs.CalmLemmas.{calm_list}
+use Rattle.relay_drive.proofs.GoesLemmas.{Grew-none, Grew-join, Heard-none, Heard-join, Counted-same}
+use Rattle.relay_drive.proofs.PortLemmas.{port_calm}
+use Rattle.relay_drive.proofs.TiedLemmas.{tied_of}
 use Rattle.program_end.specs.Planned.{HavePlans, AllToldOf}
 use Rattle.program_end.proofs.PlannedLemmas.{all_told-none, all_told-more, all_told-planned, planned-cut}
 use Rattle.program_end.proofs.TurnCountLemmas.{BeginsOnce, count-append}
 use Rattle.relay_serve.specs.Seen.{Seen, seen}
-use Rattle.relay_serve.specs.Served.{turns_told, AskedByPlans}
-use Rattle.relay_serve.specs.Underway.{TurnsWent, TurnsEnd, TurnsCut, groupless_drive}
+use Rattle.relay_serve.specs.Served.{turns_told, HasWork, LeavesClosed, AskedByPlans}
+use Rattle.relay_serve.specs.Underway.{TurnsWent, TurnsEnd, TurnsCut, IsServedOut, PortRests, is_served_out, groupless_drive}
 use Rattle.relay_serve.specs.declared.run.ServeEnd.TheVariants as serve_end
 
 -- no group is set in what words set
@@ -49,7 +63,7 @@ built g hooks = record { in_group = tt; out_group = tt; shares = tt }
 
 -- a drive went so, stands for what its turns put, and so many turns are told of
 abbrev pub Standing : Settings → Seen → Seen → DriveValue → ℕ → Type 0
-Standing g old new d turns = (w : TurnsWent g StandsBetween false old new d.state) × DriveStands w.added d × (turns ≡ turns_told w.added)
+Standing g old new d turns = (w : TurnsWent g TurnAnswer.Went StandsBetween false old new d.state) × DriveStands w.added d × (turns ≡ turns_told w.added)
 
 -- before the first turn
 stands-new : (g : code.Settings) (hooks : List SideId) (old : Seen) → Standing (settings_with g hooks) old old (groupless_drive g hooks) 0
@@ -60,7 +74,9 @@ stands-new g hooks old = (
     settings = refl;
     after = new_relay_stands (settings_with g hooks) (built g hooks);
     ends = ends-none (StoodBetween (settings_with g hooks));
+    work = ends-none (HasWork (settings_with g hooks).links);
     tied = nothing_is_tied (settings_with g hooks) old.told old.ends;
+    closed = λ some. absurd (some refl);
     heard = Heard-none old.faults;
   },
   record { fits = record { time = refl; last = refl; opened = refl }; asks = asks_fit-none; entries = refl },
@@ -85,22 +101,30 @@ ends-on : (g : Settings) (t a : Trace) (s : State) → s.settings ≡ g → Stan
 ends-on g t a s is k ends (inl none) = subst (AtTurnEnds (StoodBetween g)) (sym (append-nil t) ∙ ap (λ z. t ++ z) (sym none)) ends
 ends-on g t a s is k ends (inr one) = ends-grow (StoodBetween g) t a ends (stood-at g t Stage.Between s is k) one.first one.once
 
+-- and wherever one ended there was work, if there was as this one began
+work-on : (links : ℕ) (t a : Trace) → HasWork links t → AtTurnEnds (HasWork links) t → (a ≡ []) ⊎ BeginsOnce a →
+    AtTurnEnds (HasWork links) (t ++ a)
+work-on links t a here work (inl none) = subst (AtTurnEnds (HasWork links)) (sym (append-nil t) ∙ ap (λ z. t ++ z) (sym none)) work
+work-on links t a here work (inr one) = ends-grow (HasWork links) t a work here one.first one.once
+
 -- One more turn, of which this is known, or a part of one.
 pub turns-next : {Plan : Type 0} {R : State → Trace → State → Type 0} {After : Trace → State → Type 0}
-    {Tells : Trace → Type 0} (open_failed : Bool) (g : Settings)
+    {Tells : Trace → Type 0} (open_failed : Bool) (g : Settings) (answer : TurnAnswer)
     (old mid new : Seen) (d e : DriveValue) (v v' : Settings → Question Plan → Trace → Type 0) →
-    (w : TurnsWent g StandsBetween false old mid d.state) →
+    (w : TurnsWent g TurnAnswer.Went StandsBetween false old mid d.state) → HasWork g.links w.added →
     (t : DriveWent R After Tells open_failed d e mid.log new.log v v' mid.faults new.faults) →
     (t.added ≡ []) ⊎ BeginsOnce t.added →
-    IsTied g old.told new.told old.ends new.ends (w.added ++ t.added) →
-    TurnsWent g After open_failed old new e.state
-turns-next open_failed g old mid new d e v v' w t begins tied = record {
+    IsTied g old.told new.told old.ends new.ends (w.added ++ t.added) → LeavesClosed answer g old.told new.told (w.added ++ t.added) →
+    TurnsWent g answer After open_failed old new e.state
+turns-next open_failed g answer old mid new d e v v' w here t begins tied closed = record {
   added = w.added ++ t.added;
   list = Grew-join old.log mid.log new.log w.added t.added w.list t.list;
   settings = t.settings ∙ w.settings;
   after = t.means w.added w.after;
   ends = ends-on g w.added t.added d.state w.settings w.after w.ends begins;
+  work = work-on g.links w.added t.added here w.work begins;
   tied = tied;
+  closed = closed;
   heard = Heard-join old.faults mid.faults new.faults w.added t.added false open_failed w.heard t.heard;
 }
 
@@ -116,28 +140,31 @@ told-next t a turns more was is one =
     omega (arith, was, is, one, all)
 
 -- the same turns, of which something else holds
-abbrev with-after : {g : Settings} {After After' : Trace → State → Type 0} {failed : Bool} {old new : Seen} {s : State} →
-    (w : TurnsWent g After failed old new s) → After' w.added s → TurnsWent g After' failed old new s
+abbrev with-after : {g : Settings} {answer : TurnAnswer} {After After' : Trace → State → Type 0} {failed : Bool} {old new : Seen}
+    {s : State} → (w : TurnsWent g answer After failed old new s) → After' w.added s → TurnsWent g answer After' failed old new s
 with-after w after = record {
   added = w.added;
   list = w.list;
   settings = w.settings;
   after = after;
   ends = w.ends;
+  work = w.work;
   tied = w.tied;
+  closed = w.closed;
   heard = w.heard;
 }
 
 -- A whole turn more.
 pub stands-next : {Plan : Type 0} {R : State → Trace → State → Type 0} {Tells : Trace → Type 0} (x : TurnEnd) (g : Settings)
     (old mid new : Seen) (d e : DriveValue) (turns more : ℕ) (v v' : Settings → Question Plan → Trace → Type 0) → x ≡ end.Went →
-    (k : Standing g old mid d turns) →
+    (k : Standing g old mid d turns) → HasWork g.links k.0.added →
     (t : DriveWent R (LeftFor (turn_end_of x)) Tells false d e mid.log new.log v v' mid.faults new.faults) → BeginsOnce t.added →
-    IsTied g old.told new.told old.ends new.ends (k.0.added ++ t.added) → more ≡ min (turns + 1) (2 ^ 32 - 1) →
+    IsTied g old.told new.told old.ends new.ends (k.0.added ++ t.added) → IsClosedSince g old.told new.told (k.0.added ++ t.added) →
+    more ≡ min (turns + 1) (2 ^ 32 - 1) →
     (stood : Standing g old new e more) × (stood.0.added ≡ k.0.added ++ t.added)
 unfolding turns-next
-stands-next x g old mid new d e turns more v v' went k t once tied is =
-    let w = turns-next false g old mid new d e v v' k.0 t (inr once) tied in
+stands-next x g old mid new d e turns more v v' went k here t once tied closed is =
+    let w = turns-next false g TurnAnswer.Went old mid new d e v v' k.0 here t (inr once) tied (λ some. closed) in
     let stood : Standing g old new e more = (
       with-after w (between-of w.added e.state (subst (λ z. LeftFor (turn_end_of z) w.added e.state) went w.after)),
       t.stands k.0.added k.1,
@@ -148,13 +175,14 @@ stands-next x g old mid new d e turns more v v' went k t once tied is =
 -- A turn more that a hook of this link stopped.
 pub stopped-next : {Plan : Type 0} {R : State → Trace → State → Type 0} {Tells : Trace → Type 0} (x : TurnEnd) (link : ℕ) (g : Settings)
     (old mid new : Seen) (d e : DriveValue) (turns more : ℕ) (v v' : Settings → Question Plan → Trace → Type 0) → x ≡ end.Stopped link →
-    (k : Standing g old mid d turns) →
+    (k : Standing g old mid d turns) → HasWork g.links k.0.added →
     (t : DriveWent R (LeftFor (turn_end_of x)) Tells false d e mid.log new.log v v' mid.faults new.faults) → BeginsOnce t.added →
-    IsTied g old.told new.told old.ends new.ends (k.0.added ++ t.added) → more ≡ min (turns + 1) (2 ^ 32 - 1) →
+    IsTied g old.told new.told old.ends new.ends (k.0.added ++ t.added) → IsClosedSince g old.told new.told (k.0.added ++ t.added) →
+    more ≡ min (turns + 1) (2 ^ 32 - 1) →
     TurnsEnd (serve_end.Stopped link more) g old new e.state
 unfolding turns-next
-stopped-next x link g old mid new d e turns more v v' stopped k t once tied is =
-    let w = turns-next false g old mid new d e v v' k.0 t (inr once) tied in (
+stopped-next x link g old mid new d e turns more v v' stopped k here t once tied closed is =
+    let w = turns-next false g (TurnAnswer.Stopped link) old mid new d e v v' k.0 here t (inr once) tied closed in (
       with-after w (subst (λ z. LeftFor (turn_end_of z) w.added e.state) stopped w.after),
       told-next k.0.added t.added turns more k.2 is once.once,
     )
@@ -168,15 +196,22 @@ spent-never {new = new} (in_poll reading c) = by_case c.second
     by_case (inr x) = x
 
 pub cut-of : (f : DriveFault) (g : Settings) (old new : Seen) (s : State) → f ≢ fault.Spent →
-    TurnsWent g (LeftFor (turn_answer_of f)) (is_open_fault f) old new s → TurnsCut f g old new s
+    TurnsWent g (turn_answer_of f) (LeftFor (turn_answer_of f)) (is_open_fault f) old new s → TurnsCut f g old new s
 cut-of fault.Memory g old new s k w = w
 cut-of fault.PollFault g old new s k w = w
 cut-of fault.OpenFault g old new s k w = w
 cut-of fault.Spent g old new s k w = absurd (k refl)
 
+-- of a turn that was cut off nothing is said of accepting
+pub cut-closed : (f : DriveFault) (g : Settings) (began now : PortTold) (t : Trace) → LeavesClosed (turn_answer_of f) g began now t
+cut-closed fault.Memory g began now t = tt
+cut-closed fault.PollFault g began now t = tt
+cut-closed fault.OpenFault g began now t = tt
+cut-closed fault.Spent g began now t = tt
+
 -- a turn was refused as too much was counted
 pub cut-spent : (g : Settings) (old mid new : Seen) (d : DriveValue) (s : State) (f : DriveFault) →
-    (w : TurnsWent g StandsBetween false old mid d.state) → DriveStands w.added d → is_worn d ≡ true → new ≡ mid → s ≡ d.state →
+    (w : TurnsWent g TurnAnswer.Went StandsBetween false old mid d.state) → DriveStands w.added d → is_worn d ≡ true → new ≡ mid → s ≡ d.state →
     f ≡ fault.Spent → TurnsCut f g old new s
 cut-spent g old mid new d s f w k worn seen_is s_is f_is =
     let base : TurnsCut fault.Spent g old mid d.state = (w, (d, k, w.after, worn)) in
@@ -185,7 +220,7 @@ cut-spent g old mid new d s f w k worn seen_is s_is f_is =
 
 -- and where it was refused for another cause
 pub cut-else : (f : DriveFault) (g : Settings) (old new : Seen) (s before : State) (a : Trace) → CutTurn f before a s →
-    TurnsWent g (LeftFor (turn_answer_of f)) (is_open_fault f) old new s → TurnsCut f g old new s
+    TurnsWent g (turn_answer_of f) (LeftFor (turn_answer_of f)) (is_open_fault f) old new s → TurnsCut f g old new s
 cut-else f g old new s before a cut w = cut-of f g old new s (λ is. spent-never (subst (λ x. CutTurn x before a s) is cut)) w
 
 -- a port that is tied to a trace is tied to it with the entries of a turn, whatever the settings are called
@@ -206,6 +241,18 @@ tied-next p h is failed g old d e was now s s' turns k t =
     tied-on g d.state.settings e.state.settings old.told (p.told was) (p.told now) old.ends (p.ends was) (p.ends now) k.0.added
     (k.0.added ++ t.added) k.0.settings t.settings k.0.tied (λ x. (t.told (Question.Tied old.told old.ends) k.0.added k.1 x).0)
 
+-- Behind a whole turn accepting stands closed as that turn left it.
+pub closed-next : {P S : Type 0} {R : State → Trace → State → Type 0} {After : Trace → State → Type 0} {Tells : Trace → Type 0}
+    (p : port.Ghosts P) (h : scribe.Ghosts S) (failed : Bool) (g : Settings) (old : Seen) (d e : DriveValue) (was now : P)
+    (s s' : S) (turns : ℕ) → (k : Standing g old (seen p h (was, s)) d turns) →
+    (t : DriveWent R After Tells failed d e (h.trace s) (h.trace s') (knows p Point.Between was) (knows p Point.Accepted now) (p.faults was)
+    (p.faults now)) →
+    IsClosedSince g old.told (p.told now) (k.0.added ++ t.added)
+closed-next p h failed g old d e was now s s' turns k t =
+    let before = subst (λ z. IsTied z old.told (p.told was) old.ends (p.ends was) k.0.added) (sym k.0.settings) k.0.tied in
+    subst (λ z. IsClosedSince z old.told (p.told now) (k.0.added ++ t.added)) (t.settings ∙ k.0.settings)
+    ((t.told (Question.Tied old.told old.ends) k.0.added k.1 (before, tt)).1.1)
+
 pub same-fault : {T : Type 0} {f h : DriveFault} → ◌≡◌ {A = Result T DriveFault} (Err f) (Err h) → f ≡ h
 same-fault k = cc k
 
@@ -216,6 +263,113 @@ unworn false k = refl
 pub either : {X : Type 0} (b : Bool) → (b ≡ true → X) → (b ≡ false → X) → X
 either true f h = f refl
 either false f h = h refl
+
+-- The port rests
+
+-- a port that is tied to a trace stays so
+tied-rest : (g : Settings) (began told told' : PortTold) (ends_began ends ends' : SideId → EndTold) (t : Trace) →
+    IsTied g began told ends_began ends t → AllWent ends ends' (λ _. no_step) → PortStays told told' →
+    IsTied g began told' ends_began ends' t
+tied-rest g began told told' ends_began ends ends' t k went stays = record {
+  port = subst (λ z. PortTied g began told' z) (append-nil t) (port_calm g began told told' t k.port [] (calm_list [] refl) stays);
+  ends = λ e. subst (λ z. EndTied (ends_began e) (ends' e) e z) (append-nil t)
+      (end_ties_join e t [] (ends_began e) (ends e) (ends' e) (k.ends e) (tied_of e (ends e) (ends' e) [] (went e)));
+}
+
+-- and accepting stands as it did
+closed-rest : (o o' : Option Bool) (P : Type 0) → IsSome o → Stays o o' → MatchOption o ⊤ (λ stands. stands ≡ true → P) →
+    MatchOption o' ⊤ (λ stands. stands ≡ true → P)
+closed-rest None o' P some stays h = absurd (cc)
+closed-rest (Some b) o' P some stays h = subst (λ z. MatchOption z ⊤ (λ stands. stands ≡ true → P)) (sym stays) h
+
+leaves-rest : (g : Settings) (began told told' : PortTold) (t : Trace) → PortTied g began told t → PortStays told told' →
+    LeavesClosed TurnAnswer.Went g began told t → LeavesClosed TurnAnswer.Went g began told' t
+leaves-rest g began told told' t k stays h = λ some is.
+    closed-rest told.accepting told'.accepting _ (k.accepting is) stays.accepting (h some is)
+
+-- no fault was counted
+heard-rest : (f f' : Faults) → FaultsStay f f' → Heard f f' [] false
+heard-rest f f' h = record {
+  ends = λ e. Counted-same (f.ends e) (f'.ends e) (h.ends e);
+  polling = Counted-same f.polling f'.polling h.polling;
+  listener = Counted-same f.listener f'.listener h.listener;
+}
+
+-- So a run that stood stands where the port rests, and hooks have told the same.
+stands-rest : (g : Settings) (old mid new : Seen) (d : DriveValue) (turns : ℕ) → (k : Standing g old mid d turns) → new.log ≡ mid.log →
+    FaultsStay mid.faults new.faults → AllWent mid.ends new.ends (λ _. no_step) → PortStays mid.told new.told → Standing g old new d turns
+stands-rest g old mid new d turns k log faults went stays =
+    let w = k.0 in (
+      record {
+        added = w.added;
+        list = subst (λ z. Grew old.log z w.added) (sym log) w.list;
+        settings = w.settings;
+        after = w.after;
+        ends = w.ends;
+        work = w.work;
+        tied = tied-rest g old.told mid.told new.told old.ends mid.ends new.ends w.added w.tied went stays;
+        closed = leaves-rest g old.told mid.told new.told w.added w.tied.port stays w.closed;
+        heard = subst (λ z. Heard old.faults new.faults z false) (append-nil w.added)
+            (Heard-join old.faults mid.faults new.faults w.added [] false false w.heard (heard-rest mid.faults new.faults faults));
+      },
+      k.1,
+      k.2,
+    )
+
+pub rests : {P S H : Type 0} (p : port.Ghosts P) (h : scribe.Ghosts S) (tells : Telling H) (first hooks gone : List (Option H))
+    (g : Settings) (old : Seen) (d : DriveValue) (was now : P) (s : S) (turns : ℕ) → PortRests p was now →
+    (stood : Standing g old (seen p h (was, s)) d turns) × AllTold tells first hooks gone stood.0.added →
+    (stood : Standing g old (seen p h (now, s)) d turns) × AllTold tells first hooks gone stood.0.added
+unfolding stands-rest
+rests p h tells first hooks gone g old d was now s turns r k =
+    (stands-rest g old (seen p h (was, s)) (seen p h (now, s)) d turns k.0 refl r.faults r.ends r.told, k.1)
+
+-- There is work
+
+-- a link that lives, where some do
+living : (t : Trace) (n : ℕ) → 0 < living_below t n → (link : ℕ) × (link < n) × (link_state_in t link ≡ state.Live)
+living t zero h = absurd (omega (arith, h))
+living t (suc n) h = go (lives_in t n) refl h
+  where
+    go : (b : Bool) → lives_in t n ≡ b → 0 < living_below t n + (if b then 1 else 0) →
+        (link : ℕ) × (link < suc n) × (link_state_in t link ≡ state.Live)
+    go true is h = (n, omega arith, ap (λ z. if z then state.Live else (if is_done (in_side n) t && is_done (out_side n) t then state.Done else state.Gone)) is)
+    go false is h = let k = living t n (omega (arith, h)) in (k.0, (let lt = k.1 in omega (arith, lt)), k.2)
+
+-- a relay that is not served out has work by its trace
+pub has-work : (t : Trace) (s : State) (links : ℕ) → StandsBetween t s → s.settings.links ≡ links → is_served_out s links ≡ false →
+    HasWork links t
+has-work t s links k is not_out = by_case (s.plain.opened == links) refl not_out
+  where
+    are : LinksAre t s
+    are = links_are_told t Stage.Between s k (left-recorded s.settings TurnAnswer.Went Stage.Between s.plain refl)
+
+    within : s.plain.opened ≤ s.settings.links
+    within = (told t Stage.Between s k).counts.links
+
+    fewer : (s.plain.opened == links) ≡ false → opened t < links
+    fewer differ =
+        let other : s.plain.opened ≢ links = eqb-false s.plain.opened links differ in
+        let same = are.links in
+        omega (arith, within, is, other, same)
+
+    by_case : (b : Bool) → (s.plain.opened == links) ≡ b → (b && not (nat_lt 0 (open_below s s.plain.opened))) ≡ false → HasWork links t
+    by_case false differ h = inl (fewer differ)
+    by_case true same h = inr (living t (opened t)
+        (let more = not-false (nat_lt 0 (open_below s s.plain.opened)) h in
+        let some : 0 < open_below s s.plain.opened = ltb-true 0 (open_below s s.plain.opened) more in
+        let is = are.living in omega (arith, some, is)))
+
+-- and one that is has none
+pub served-out : (s : State) (links : ℕ) → s.settings.links ≡ links → is_served_out s links ≡ true → IsServedOut s
+served-out s links is out =
+    let parts = and_parts (s.plain.opened == links) (not (nat_lt 0 (open_below s s.plain.opened))) out in
+    record {
+      all_opened = eqb-true s.plain.opened links parts.0 ∙ sym is;
+      none_open =
+          let none = ltb-false 0 (open_below s s.plain.opened) (not-true (nat_lt 0 (open_below s s.plain.opened)) parts.1) in
+          omega (arith, none);
+    }
 
 -- What hooks asked
 
