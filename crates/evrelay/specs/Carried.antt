@@ -34,6 +34,7 @@ pub record IsPassedOn (g : Settings) (ends : SideId → EndTold) : Type 0 where
   pub whole : (e : SideId) → (ends (peer e)).write_ended ≡ Some true → IsSomeAnd (ends e).handed_out (λ got.
       (ends (peer e)).taken ≡ Some (passed_at_end (filter_of (read_kind g e.side)) (filter_of (write_kind g (peer e).side)) got))
 
--- The last start of the port had the addresses of the words, from then to the end; or memory ran out before it was started.
+-- The last start of the port had the addresses of the words; or memory ran out before it was started.
 abbrev pub IsStartedBy : Route → Status → PortTold → Type 0
-IsStartedBy route ended told = (told.started ≡ Some (Some (route.listen, route.to))) ⊎ ((ended ≡ status.Memory) × (told.started ≡ Some None))
+IsStartedBy route ended told =
+    (told.started ≡ Some (Some (route.listen, route.to))) ⊎ ((ended ≡ status.Memory) × (told.started ≡ Some None))

@@ -223,7 +223,8 @@ ran-of route hooks old mid new b s g is (Err why) h =
 
 -- nothing was done behind the start
 module _ (route : Route) (hooks : List SideId) (old new : Seen) (failed : Bool) (b : Begun route old new failed) where
-  only-started : (answer : TurnAnswer) → LeftAt (settings_on route hooks) answer Stage.Between (new_state (settings_on route hooks)).plain →
+  only-started : (answer : TurnAnswer) →
+      LeftAt (settings_on route hooks) answer Stage.Between (new_state (settings_on route hooks)).plain →
       LeavesClosed answer (settings_on route hooks) new.told new.told [] → IsServed route hooks answer failed old new [] []
   only-started answer left closed =
       let g = settings_on route hooks in

@@ -1,16 +1,11 @@
 -- Turns in a row: none, one more, and one that is cut off.
-use Rattle.std.proofs.Common.{◌≡◌, ◌≢◌, ◌⊎◌, inl, inr, ℕ, zero, suc, ◌+◌, ◌-◌, ◌^◌, ◌<◌, ◌≤◌, ◌==◌, ◌&&◌, not, min, Bool, true, false, List}
-use Rattle.std.proofs.Common.{[], ◌++◌, refl, sym, ◌∙◌, ap, subst, if◌then◌else◌, nat_lt}
-use Rattle.std.proofs.Common.{append-nil, count_by, arith, Result, Err, Option, Some, None}
-use Rattle.std.proofs.lemmas.Bool.{and_parts, eqb-true, eqb-false, ltb-true, ltb-false, not-true, not-false}
-use Rattle.std.specs.Prelude.{⊤, MatchOption, IsSome}
+use Rattle.std.proofs.Common.{◌≡◌, ◌≢◌, ◌⊎◌, inl, inr, ℕ, ◌+◌, ◌-◌, ◌^◌, min, Bool, true, false, List, [], ◌++◌, refl, sym, ◌∙◌, ap, subst}
+use Rattle.std.proofs.Common.{append-nil, count_by, arith, Result, Err, Option, None}
+use Rattle.std.specs.Prelude.{⊤}
 use Rattle.ev_types.specs.declared.plan_line.PlanLine.{PlanLine}
 use Rattle.ev_types.specs.declared.side.SideId.{SideId}
 use Rattle.ev_types.specs.Growth.{Grew}
-use Rattle.ev_types.specs.Told.{EndTold, PortTold, Stays}
-use Rattle.ev_types.specs.declared.status.LinkState.TheVariants as state
-use Rattle.ev_port.specs.EndSteps.{AllWent, PortStays, no_step}
-use Rattle.ev_port.specs.Faults.{Faults, FaultsStay}
+use Rattle.ev_types.specs.Told.{EndTold, PortTold}
 use Rattle.ev_types.specs.Trace.{Trace}
 use Rattle.ev_port.specs.declared.port.Port as port
 use Rattle.ev_port.specs.declared.scribe.Scribe as scribe
@@ -18,19 +13,14 @@ use Rattle.relay_model.specs.Answers.{TurnAnswer}
 use Rattle.relay_model.specs.RatesKept.{is_turn}
 use Rattle.relay_model.specs.Settings.{Settings, settings_with}
 use Rattle.relay_model.specs.Stages.{Stage}
-use Rattle.relay_model.specs.Tied.{IsTied, PortTied, EndTied}
-use Rattle.relay_model.specs.Totals.{opened}
-use Rattle.relay_model.proofs.TiedLemmas.{nothing_is_tied, end_ties_join}
+use Rattle.relay_model.specs.Tied.{IsTied}
+use Rattle.relay_model.proofs.TiedLemmas.{nothing_is_tied}
 use Rattle.ev_types.specs.declared.settings.Settings as code
 use Rattle.relay_state.specs.State.{State}
-use Rattle.relay_state.specs.Closing.{in_side, out_side}
-use Rattle.relay_state.specs.Counting.{open_below}
 use Rattle.relay_steps.specs.Meaning.{HasItsGroups, StandsFor, LeftFor}
-use Rattle.relay_laws.specs.Links.{LinksAre, lives_in, living_below, is_done, link_state_in}
 use Rattle.relay_laws.specs.Relayed.{StoodBetween}
 use Rattle.relay_laws.specs.TurnEnds.{AtTurnEnds}
-use Rattle.relay_laws.proofs.LawLemmas.{new_relay_stands, told}
-use Rattle.relay_laws.proofs.LinkLemmas.{links_are_told, left-recorded}
+use Rattle.relay_laws.proofs.LawLemmas.{new_relay_stands}
 use Rattle.relay_laws.proofs.RelayedLemmas.{stood-at}
 use Rattle.relay_laws.proofs.TurnEndLemmas.{ends-none, ends-grow}
 use Rattle.relay_drive.specs.declared.fault.DriveFault.{DriveFault}
@@ -39,23 +29,20 @@ use Rattle.relay_drive.specs.declared.fault.TurnEnd.{TurnEnd}
 use Rattle.relay_drive.specs.declared.fault.TurnEnd.TheVariants as end
 use Rattle.relay_drive.specs.DriveStands.{DriveStands, DriveWent, StandsBetween, turn_answer_of, turn_end_of}
 use Rattle.relay_drive.specs.DriveValue.{DriveValue, is_worn}
-use Rattle.relay_drive.specs.Advances.{Heard}
 use Rattle.relay_drive.specs.Known.{Point, Question, IsClosedSince}
 use Rattle.relay_drive.specs.Seats.{Telling, HooksTell, AreFresh}
 use Rattle.relay_drive.specs.Moves.{knows}
 use Rattle.relay_drive.specs.Phases.{CutTurn, in_poll, CutPolling, is_open_fault}
 use Rattle.relay_drive.proofs.HookEvents.{asks_fit-none}
-use Rattle.relay_drive.proofs.CalmLemmas.{calm_list}
-use Rattle.relay_drive.proofs.GoesLemmas.{Grew-none, Grew-join, Heard-none, Heard-join, Counted-same}
-use Rattle.relay_drive.proofs.PortLemmas.{port_calm}
-use Rattle.relay_drive.proofs.TiedLemmas.{tied_of}
+use Rattle.relay_drive.proofs.GoesLemmas.{Grew-none, Grew-join, Heard-none, Heard-join}
 use Rattle.program_end.specs.Planned.{HavePlans, AllToldOf}
 use Rattle.program_end.proofs.PlannedLemmas.{all_told-none, all_told-more, all_told-planned, planned-cut}
 use Rattle.program_end.proofs.TurnCountLemmas.{BeginsOnce, count-append}
 use Rattle.relay_serve.specs.Seen.{Seen, seen}
 use Rattle.relay_serve.specs.Served.{turns_told, HasWork, LeavesClosed, AskedByPlans}
-use Rattle.relay_serve.specs.Underway.{TurnsWent, TurnsEnd, TurnsCut, IsServedOut, PortRests, is_served_out, groupless_drive}
+use Rattle.relay_serve.specs.Underway.{TurnsWent, TurnsEnd, TurnsCut, groupless_drive}
 use Rattle.relay_serve.specs.declared.run.ServeEnd.TheVariants as serve_end
+use Rattle.relay_serve.proofs.WorkLemmas.{work-on}
 
 -- no group is set in what words set
 pub built : (g : code.Settings) (hooks : List SideId) → HasItsGroups (settings_with g hooks)
@@ -63,7 +50,8 @@ built g hooks = record { in_group = tt; out_group = tt; shares = tt }
 
 -- a drive went so, stands for what its turns put, and so many turns are told of
 abbrev pub Standing : Settings → Seen → Seen → DriveValue → ℕ → Type 0
-Standing g old new d turns = (w : TurnsWent g TurnAnswer.Went StandsBetween false old new d.state) × DriveStands w.added d × (turns ≡ turns_told w.added)
+Standing g old new d turns =
+    (w : TurnsWent g TurnAnswer.Went StandsBetween false old new d.state) × DriveStands w.added d × (turns ≡ turns_told w.added)
 
 -- before the first turn
 stands-new : (g : code.Settings) (hooks : List SideId) (old : Seen) → Standing (settings_with g hooks) old old (groupless_drive g hooks) 0
@@ -100,12 +88,6 @@ ends-on : (g : Settings) (t a : Trace) (s : State) → s.settings ≡ g → Stan
     (a ≡ []) ⊎ BeginsOnce a → AtTurnEnds (StoodBetween g) (t ++ a)
 ends-on g t a s is k ends (inl none) = subst (AtTurnEnds (StoodBetween g)) (sym (append-nil t) ∙ ap (λ z. t ++ z) (sym none)) ends
 ends-on g t a s is k ends (inr one) = ends-grow (StoodBetween g) t a ends (stood-at g t Stage.Between s is k) one.first one.once
-
--- and wherever one ended there was work, if there was as this one began
-work-on : (links : ℕ) (t a : Trace) → HasWork links t → AtTurnEnds (HasWork links) t → (a ≡ []) ⊎ BeginsOnce a →
-    AtTurnEnds (HasWork links) (t ++ a)
-work-on links t a here work (inl none) = subst (AtTurnEnds (HasWork links)) (sym (append-nil t) ∙ ap (λ z. t ++ z) (sym none)) work
-work-on links t a here work (inr one) = ends-grow (HasWork links) t a work here one.first one.once
 
 -- One more turn, of which this is known, or a part of one.
 pub turns-next : {Plan : Type 0} {R : State → Trace → State → Type 0} {After : Trace → State → Type 0}
@@ -228,7 +210,8 @@ tied-on : (g s s' : Settings) (began told told' : PortTold) (ends_began ends end
     IsTied g began told ends_began ends t → (IsTied s began told ends_began ends t × ⊤ → IsTied s' began told' ends_began ends' u) →
     IsTied g began told' ends_began ends' u
 tied-on g s s' began told told' ends_began ends ends' t u is same h f =
-    subst (λ z. IsTied z began told' ends_began ends' u) (same ∙ is) (f (subst (λ z. IsTied z began told ends_began ends t) (sym is) h, tt))
+    subst (λ z. IsTied z began told' ends_began ends' u) (same ∙ is)
+    (f (subst (λ z. IsTied z began told ends_began ends t) (sym is) h, tt))
 
 -- So it is of one more turn, or of a part of one.
 pub tied-next : {P S : Type 0} {R : State → Trace → State → Type 0} {After : Trace → State → Type 0} {Tells : Trace → Type 0}
@@ -263,113 +246,6 @@ unworn false k = refl
 pub either : {X : Type 0} (b : Bool) → (b ≡ true → X) → (b ≡ false → X) → X
 either true f h = f refl
 either false f h = h refl
-
--- The port rests
-
--- a port that is tied to a trace stays so
-tied-rest : (g : Settings) (began told told' : PortTold) (ends_began ends ends' : SideId → EndTold) (t : Trace) →
-    IsTied g began told ends_began ends t → AllWent ends ends' (λ _. no_step) → PortStays told told' →
-    IsTied g began told' ends_began ends' t
-tied-rest g began told told' ends_began ends ends' t k went stays = record {
-  port = subst (λ z. PortTied g began told' z) (append-nil t) (port_calm g began told told' t k.port [] (calm_list [] refl) stays);
-  ends = λ e. subst (λ z. EndTied (ends_began e) (ends' e) e z) (append-nil t)
-      (end_ties_join e t [] (ends_began e) (ends e) (ends' e) (k.ends e) (tied_of e (ends e) (ends' e) [] (went e)));
-}
-
--- and accepting stands as it did
-closed-rest : (o o' : Option Bool) (P : Type 0) → IsSome o → Stays o o' → MatchOption o ⊤ (λ stands. stands ≡ true → P) →
-    MatchOption o' ⊤ (λ stands. stands ≡ true → P)
-closed-rest None o' P some stays h = absurd (cc)
-closed-rest (Some b) o' P some stays h = subst (λ z. MatchOption z ⊤ (λ stands. stands ≡ true → P)) (sym stays) h
-
-leaves-rest : (g : Settings) (began told told' : PortTold) (t : Trace) → PortTied g began told t → PortStays told told' →
-    LeavesClosed TurnAnswer.Went g began told t → LeavesClosed TurnAnswer.Went g began told' t
-leaves-rest g began told told' t k stays h = λ some is.
-    closed-rest told.accepting told'.accepting _ (k.accepting is) stays.accepting (h some is)
-
--- no fault was counted
-heard-rest : (f f' : Faults) → FaultsStay f f' → Heard f f' [] false
-heard-rest f f' h = record {
-  ends = λ e. Counted-same (f.ends e) (f'.ends e) (h.ends e);
-  polling = Counted-same f.polling f'.polling h.polling;
-  listener = Counted-same f.listener f'.listener h.listener;
-}
-
--- So a run that stood stands where the port rests, and hooks have told the same.
-stands-rest : (g : Settings) (old mid new : Seen) (d : DriveValue) (turns : ℕ) → (k : Standing g old mid d turns) → new.log ≡ mid.log →
-    FaultsStay mid.faults new.faults → AllWent mid.ends new.ends (λ _. no_step) → PortStays mid.told new.told → Standing g old new d turns
-stands-rest g old mid new d turns k log faults went stays =
-    let w = k.0 in (
-      record {
-        added = w.added;
-        list = subst (λ z. Grew old.log z w.added) (sym log) w.list;
-        settings = w.settings;
-        after = w.after;
-        ends = w.ends;
-        work = w.work;
-        tied = tied-rest g old.told mid.told new.told old.ends mid.ends new.ends w.added w.tied went stays;
-        closed = leaves-rest g old.told mid.told new.told w.added w.tied.port stays w.closed;
-        heard = subst (λ z. Heard old.faults new.faults z false) (append-nil w.added)
-            (Heard-join old.faults mid.faults new.faults w.added [] false false w.heard (heard-rest mid.faults new.faults faults));
-      },
-      k.1,
-      k.2,
-    )
-
-pub rests : {P S H : Type 0} (p : port.Ghosts P) (h : scribe.Ghosts S) (tells : Telling H) (first hooks gone : List (Option H))
-    (g : Settings) (old : Seen) (d : DriveValue) (was now : P) (s : S) (turns : ℕ) → PortRests p was now →
-    (stood : Standing g old (seen p h (was, s)) d turns) × AllTold tells first hooks gone stood.0.added →
-    (stood : Standing g old (seen p h (now, s)) d turns) × AllTold tells first hooks gone stood.0.added
-unfolding stands-rest
-rests p h tells first hooks gone g old d was now s turns r k =
-    (stands-rest g old (seen p h (was, s)) (seen p h (now, s)) d turns k.0 refl r.faults r.ends r.told, k.1)
-
--- There is work
-
--- a link that lives, where some do
-living : (t : Trace) (n : ℕ) → 0 < living_below t n → (link : ℕ) × (link < n) × (link_state_in t link ≡ state.Live)
-living t zero h = absurd (omega (arith, h))
-living t (suc n) h = go (lives_in t n) refl h
-  where
-    go : (b : Bool) → lives_in t n ≡ b → 0 < living_below t n + (if b then 1 else 0) →
-        (link : ℕ) × (link < suc n) × (link_state_in t link ≡ state.Live)
-    go true is h = (n, omega arith, ap (λ z. if z then state.Live else (if is_done (in_side n) t && is_done (out_side n) t then state.Done else state.Gone)) is)
-    go false is h = let k = living t n (omega (arith, h)) in (k.0, (let lt = k.1 in omega (arith, lt)), k.2)
-
--- a relay that is not served out has work by its trace
-pub has-work : (t : Trace) (s : State) (links : ℕ) → StandsBetween t s → s.settings.links ≡ links → is_served_out s links ≡ false →
-    HasWork links t
-has-work t s links k is not_out = by_case (s.plain.opened == links) refl not_out
-  where
-    are : LinksAre t s
-    are = links_are_told t Stage.Between s k (left-recorded s.settings TurnAnswer.Went Stage.Between s.plain refl)
-
-    within : s.plain.opened ≤ s.settings.links
-    within = (told t Stage.Between s k).counts.links
-
-    fewer : (s.plain.opened == links) ≡ false → opened t < links
-    fewer differ =
-        let other : s.plain.opened ≢ links = eqb-false s.plain.opened links differ in
-        let same = are.links in
-        omega (arith, within, is, other, same)
-
-    by_case : (b : Bool) → (s.plain.opened == links) ≡ b → (b && not (nat_lt 0 (open_below s s.plain.opened))) ≡ false → HasWork links t
-    by_case false differ h = inl (fewer differ)
-    by_case true same h = inr (living t (opened t)
-        (let more = not-false (nat_lt 0 (open_below s s.plain.opened)) h in
-        let some : 0 < open_below s s.plain.opened = ltb-true 0 (open_below s s.plain.opened) more in
-        let is = are.living in omega (arith, some, is)))
-
--- and one that is has none
-pub served-out : (s : State) (links : ℕ) → s.settings.links ≡ links → is_served_out s links ≡ true → IsServedOut s
-served-out s links is out =
-    let parts = and_parts (s.plain.opened == links) (not (nat_lt 0 (open_below s s.plain.opened))) out in
-    record {
-      all_opened = eqb-true s.plain.opened links parts.0 ∙ sym is;
-      none_open =
-          let none = ltb-false 0 (open_below s s.plain.opened) (not-true (nat_lt 0 (open_below s s.plain.opened)) parts.1) in
-          omega (arith, none);
-    }
 
 -- What hooks asked
 

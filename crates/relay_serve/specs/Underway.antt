@@ -1,5 +1,6 @@
 -- What a run over a port has done, as far as it came.
-use Rattle.std.specs.Prelude.{◌≡◌, ◌≢◌, ◌==◌, ◌&&◌, not, nat_lt, ℕ, Bool, false, length, ◌<◌, List, take, Result, Ok, Err, None, MatchResult}
+use Rattle.std.specs.Prelude.{◌≡◌, ◌≢◌, ◌==◌, ◌&&◌, not, nat_lt, ℕ, Bool, false, length, ◌<◌, List, take}
+use Rattle.std.specs.Prelude.{Result, Ok, Err, None, MatchResult}
 use Rattle.ev_types.specs.declared.side.SideId.{SideId}
 use Rattle.ev_types.specs.declared.status.Status.{Status}
 use Rattle.ev_types.specs.declared.status.Status.TheVariants as status

@@ -13,8 +13,9 @@ use Rattle.relay_serve.specs.Seen.{Seen, seen}
 use Rattle.relay_serve.specs.Underway.{TurnsCut, TurnsEnd}
 use Rattle.relay_serve.specs.declared.run.ServeEnd.TheVariants as serve_end
 use Rattle.relay_serve.proofs.TurnsLemmas.{begins, stands-next, stopped-next, turns-next, tied-next, closed-next, cut-closed, cut-spent}
-use Rattle.relay_serve.proofs.TurnsLemmas.{cut-else, rests, has-work, served-out}
-use Rattle.relay_serve.proofs.TurnsLemmas.{unworn, either, same-fault, told-on, asked-told, asked-cut}
+use Rattle.relay_serve.proofs.RestLemmas.{rests}
+use Rattle.relay_serve.proofs.WorkLemmas.{has-work, served-out}
+use Rattle.relay_serve.proofs.TurnsLemmas.{cut-else, unworn, either, same-fault, told-on, asked-told, asked-cut}
 use Rattle.relay_serve.proofs.run.make_turns.Goals as goal
 
 pub loop-init : goal.loop-init
