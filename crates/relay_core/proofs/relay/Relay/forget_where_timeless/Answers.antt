@@ -1,4 +1,4 @@
-use Rattle.std.proofs.Common.{rules}
+use Rattle.std.proofs.Common.{rules, refl}
 use Rattle.relay_core.proofs.WatchLemmas.{watching-fewer}
 use Rattle.relay_core.proofs.relay.Relay.forget_where_timeless.Goals as goal
 
@@ -9,8 +9,7 @@ invariant_of-self-inside c =
     record {
       timed = h.timed;
       grouped = h.grouped;
-      watching = watching-fewer r.watched r.time r.sides.links r.groups.value h.watching c.remove.new.self c.args.link
-          c.remove.ensures.len c.remove.ensures.members (search rules);
+      watching = watching-fewer r.resting r.time r.sides.links r.groups.value h.watching c.rest.new.self _ _ _ refl ? c.rest.ensures ? ?;
       grouping = h.grouping;
       time = h.time;
       few = h.few;

@@ -25,6 +25,7 @@ loop-link-preserved c =
     let both = c.look_at_side-in-Some.ensures.state ∙ (λ i. side_timed (c.look_at_side.ensures.state i) (c.peer.ensures i)) in
     record {
       untimed = c.look_at_side-in-Some.ensures.untimed ∙ c.look_at_side.ensures.untimed ∙ inv.untimed;
+      watched = λ n out. inv.watched n (c.look_at_side.ensures.watched n (c.look_at_side-in-Some.ensures.watched n out));
       opened = c.look_at_side-in-Some.ensures.opened ∙ c.look_at_side.ensures.opened ∙ inv.opened;
       within = omega (arith, below);
       rest = ap (λ z. fold side_timed z rest) both
