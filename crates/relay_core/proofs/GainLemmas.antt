@@ -80,8 +80,11 @@ full-later : (cfg : LimitCfg) (x : Gauge) (a b : ℕ) → a ≤ b → is_short c
 full-later cfg x a b le none = λ i. none_at dir.Read i || (none_at dir.Write i || false)
   where
     not_zero : (n : ℕ) → 1 ≤ n → n == 0 ≡ false
-    not_zero zero h = absurd (omega (arith, h))
-    not_zero (suc n) h = refl
+    not_zero n h = go (n == 0) refl
+      where
+        go : (c : Bool) → n == 0 ≡ c → c ≡ false
+        go false e = refl
+        go true e = absurd (let none = eqb-true n 0 e in omega (arith, h, none))
 
     none_at : (d : Dir) → held_at cfg x d b == 0 ≡ false
     none_at d =
@@ -119,7 +122,7 @@ alike moment a b (Some y) x le ahead is = by (is_short y.cfg x a) refl moment is
         let at : n ≡ tick = (cc one) in
         let e = same-tick y.cfg a b le (let late = ahead n refl in omega (arith, late, at)) in
         record {
-          told = is ∙ (λ i. moment_where (short-same y.cfg x a b (sym e) (i)) ((sym e i + 1) * y.cfg.tick_ms));
+          told = is ∙ (λ i. moment_where (sym (short-same y.cfg x a b e) i) ((sym e i + 1) * y.cfg.tick_ms));
           left = λ d. ap (nat_le 1) (held-same y.cfg x d a b e);
         }
 
@@ -141,14 +144,18 @@ left-alike moment a b y x le ahead is live d =
 
 -- The model tells of a side what is told of its buckets here.
 pub gain-side : (s : State) (e : SideId) → gain_of s e ≡ side_gains s.plain.time (side_at s.plain e) (gauge_at s e)
-gain-side s e = by (side_at s.plain e).limit (is_live s.plain e)
+gain-side s e = told (side_at s.plain e).limit ∙ by (side_at s.plain e).limit (is_live s.plain e)
   where
+    gain : Option Standing → Bool → List ℕ
+    gain None live = []
+    gain (Some y) live = moment_where (live && is_short y.cfg (gauge_at s e) s.plain.time) (next_tick y.cfg.tick_ms s.plain.time)
+
+    told : (l : Option Standing) → limit_gain s e l ≡ gain l (is_live s.plain e)
+    told None = refl
+    told (Some y) = refl
+
     by : (l : Option Standing) (live : Bool) → gain l live ≡ (if live then limit_gains s.plain.time (gauge_at s e) l else [])
     by None true = refl
     by None false = refl
     by (Some y) true = refl
     by (Some y) false = refl
-
-    gain : Option Standing → Bool → List ℕ
-    gain None live = []
-    gain (Some y) live = moment_where (live && is_short y.cfg (gauge_at s e) s.plain.time) (next_tick y.cfg.tick_ms s.plain.time)

@@ -9,3 +9,4 @@ pub mod HaltLemmas
 pub mod GainLemmas
 pub mod WatchLemmas
 pub mod SkipLemmas
+pub mod RestLemmas

@@ -83,22 +83,17 @@ firsts_more f first a b es =
     ∙ sym (earliest-append (f a) (flat_map f (b ∷ es))))
 
 -- A moment that is not before one that counts already may be left out.
-pub late-out : (f : SideId → List ℕ) (r first : Option ℕ) (e : SideId) (es : List SideId) → earlier first r ≡ first →
-    earlier r (earliest (f e)) ≡ r → earlier first (earliest (flat_map f (e ∷ es))) ≡ earlier first (earliest (flat_map f es))
-late-out f r first e es low late =
-    let x = earliest (f e) in
+pub late-out : (f : SideId → List ℕ) (first : Option ℕ) (e : SideId) (es : List SideId) → earlier first (earliest (f e)) ≡ first →
+    earlier first (earliest (flat_map f (e ∷ es))) ≡ earlier first (earliest (flat_map f es))
+late-out f first e es late =
     let z = earliest (flat_map f es) in
-    let out : earlier first x ≡ first = ap (λ o. earlier o x) (sym low) ∙ earlier-assoc first r x ∙ ap (earlier first) late ∙ low in
-    ap (earlier first) (earliest-append (f e) (flat_map f es)) ∙ sym (earlier-assoc first x z) ∙ ap (λ o. earlier o z) out
+    ap (earlier first) (earliest-append (f e) (flat_map f es)) ∙ sym (earlier-assoc first (earliest (f e)) z) ∙ ap (λ o. earlier o z) late
 
--- what counts already stays as another moment is added
-pub low-more : (r first more : Option ℕ) → earlier first r ≡ first → earlier (earlier first more) r ≡ earlier first more
-low-more r first more low =
-    earlier-assoc first more r ∙ ap (earlier first) (earlier-comm more r) ∙ sym (earlier-assoc first r more)
-    ∙ ap (λ o. earlier o more) low
-
-pub low-self : (r : Option ℕ) → earlier r r ≡ r
-low-self r = earlier-self r
+-- and it is not before one that counts once another does too
+pub late-more : (late first more : Option ℕ) → earlier first late ≡ first → earlier (earlier first more) late ≡ earlier first more
+late-more late first more is =
+    earlier-assoc first more late ∙ ap (earlier first) (earlier-comm more late) ∙ sym (earlier-assoc first late more)
+    ∙ ap (λ o. earlier o more) is
 
 -- the moment of a side that is among them counts already
 pub counted-in : (f : SideId → List ℕ) (m : ℕ) (e : SideId) (n from : ℕ) → from ≤ e.link → e.link < n → f e ≡ m ∷ [] →

@@ -73,6 +73,10 @@ IsLeftAlike to s e = is_live s.plain e ≡ true → (d : Dir) →
 abbrev pub AreLeftAlikeBeside : NumberSetValue → ℕ → State → Type 0
 AreLeftAlikeBeside set to s = (e : SideId) → e.link < s.plain.opened → set.has e.link ≡ false → IsLeftAlike to s e
 
+-- no number from one up to another is in a set
+abbrev pub AreOut : NumberSetValue → ℕ → ℕ → Type 0
+AreOut set from to = (n : ℕ) → from ≤ n → n < to → set.has n ≡ false
+
 -- a set has all that another one has
 abbrev pub HasAllOf : NumberSetValue → NumberSetValue → Type 0
 HasAllOf old new = (n : ℕ) → new.has n ≡ false → old.has n ≡ false

@@ -87,6 +87,7 @@ impl Ctl {
     pub(crate) fn raise(&mut self, side: SideId, why: Why)
         ensures state { self.new.state ≡ with_plain (raise self.old.state.settings side why self.old.state.plain) self.old.state }
         ensures fire { SameFire self.old self.new }
+        ensures watched { self.new.watched ≡ self.old.watched }
     {
         if self.waits.has_hook(side) && self.live(side) {
             self.waits.raise(side, why);

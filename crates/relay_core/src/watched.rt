@@ -1,7 +1,7 @@
 // The links that are watched as time goes on: those of sides with a timeout, of members of a suspended group, and some at which something
 // changed since they were looked at. A side with an empty bucket rests until the next tick of its limit.
 ghost use Rattle.std.specs.Prelude.{◌≡◌, ◌+◌, ◌^◌, ◌<◌, ◌≤◌, true, false, MatchOption};
-ghost use Rattle.relay_core.specs.Timeless.{leaves_some, is_halted, side_gains, IsStillSide, AreTimeless, AreTimelessBeside};
+ghost use Rattle.relay_core.specs.Timeless.{leaves_some, side_gains, is_halted, AreOut, IsStillSide, AreTimeless, AreTimelessBeside};
 
 use crate::ctl::Ctl;
 use crate::relay::Relay;
@@ -33,8 +33,9 @@ impl Relay {
 
     /// The first watched link from a number on.
     pub(crate) fn next_watched(&self, from: u32) -> Option<u32>
-        ensures { MatchOption result (AreTimeless self.now.state from self.now.state.plain.opened)
+        ensures links { MatchOption result (AreTimeless self.now.state from self.now.state.plain.opened)
             (λ link. (from ≤ link) × (link < self.now.state.plain.opened) × (link + 1 < 2 ^ 32) × AreTimeless self.now.state from link) }
+        ensures out { MatchOption result (AreOut self.now.watched from self.now.state.plain.opened) (λ link. AreOut self.now.watched from link) }
     {
         let link = self.ctl.resting.watched().next(from as usize)?;
         if link < self.ctl.sides.opened() as usize {

@@ -1,4 +1,7 @@
 use Rattle.std.proofs.Common.{subst, sym, ◌∙◌, ap}
+use Rattle.number_set.specs.Numbers.{NumberSetValue}
+use Rattle.relay_core.specs.RelayValue.{RelayValue}
+use Rattle.relay_core.specs.declared.relay.Relay.TheInside.{Inside}
 use Rattle.rate_group.specs.GroupValue.{GroupsValue}
 use Rattle.relay_core.specs.Timeless.{IsGrouping}
 use Rattle.relay_core.proofs.RelayLemmas.{refilled_sound}
@@ -24,5 +27,7 @@ invariant_of-self-inside c =
 
 pub returns-clause-alike : goal.returns-clause-alike
 returns-clause-alike c = λ e below out.
+    let is = ap (λ (z : Inside). z.ctl) c.self-inside.view_is ∙ c.self.view_is in
     c.turn_to-time.ensures.alike e below
-    (? (c.look_at_sides.ensures.watched e.link out))
+    (sym (ap (λ (z : RelayValue). z.watched.has e.link) is)
+    ∙ sym (ap (λ (w : NumberSetValue). w.has e.link) c.take_timers.ensures.watched) ∙ c.look_at_sides.ensures.watched e.link out)
