@@ -6,5 +6,7 @@ pub mod FireLemmas
 pub mod TimerLemmas
 pub mod AskLemmas
 pub mod HaltLemmas
+pub mod GainLemmas
 pub mod WatchLemmas
 pub mod SkipLemmas
+pub mod RestLemmas

@@ -15,8 +15,8 @@ use Rattle.relay_state.specs.Running.{held_at}
 use Rattle.relay_state.specs.Closing.{in_side, out_side}
 use Rattle.relay_state.specs.Rooms.{wants}
 use Rattle.relay_state.specs.Time.{expiry, limit_gain, timed, side_timed}
-use Rattle.relay_core.specs.Timeless.{leaves_some, IsStillSide}
-use Rattle.relay_core.specs.Waits.{is_expired, expiries, gains}
+use Rattle.relay_core.specs.Timeless.{IsStillSide}
+use Rattle.relay_core.specs.Waits.{is_expired, expiries}
 use Rattle.relay_core.proofs.TimeLemmas.{sides_from-more}
 
 -- what comes of the sides from one link on comes of those from a later one on, where the sides between them may be left out
@@ -77,29 +77,3 @@ module _ (s : State) (e : SideId) (h : IsStillSide s e) where
   -- and won't
   pub expiries-none : (es : List SideId) → expiries s (e ∷ es) ≡ expiries s es
   expiries-none es = (λ i. (expiry-none dir.Read i ++ (expiry-none dir.Write i ++ [])) ++ expiries s es)
-
-  some-not : (n : ℕ) → nat_le 1 n ≡ true → n == 0 ≡ false
-  some-not n is = go (n == 0) refl
-    where
-      go : (b : Bool) → n == 0 ≡ b → b ≡ false
-      go false e = refl
-      go true e = absurd (let one = leb-true 1 n is in let none = eqb-true n 0 e in omega (arith, one, none))
-
-  gain-none : (y : Option Standing) → (side_at s.plain e).limit ≡ y → limit_gain s e y ≡ []
-  gain-none None is = refl
-  gain-none (Some y) is = by (is_live s.plain e) refl
-    where
-      used : is_live s.plain e ≡ true → (d : Dir) → held_at y.cfg (gauge_at s e) d s.plain.time == 0 ≡ false
-      used live d =
-          some-not (held_at y.cfg (gauge_at s e) d s.plain.time)
-          (ap (λ l. leaves_some (option_map (λ z. held_at z.cfg (gauge_at s e) d s.plain.time) l)) (sym is) ∙ h.allowed live d)
-
-      by : (b : Bool) → is_live s.plain e ≡ b →
-          moment_where (b && list_any (λ d. held_at y.cfg (gauge_at s e) d s.plain.time == 0) both_ways)
-          (next_tick y.cfg.tick_ms s.plain.time) ≡ []
-      by false live = refl
-      by true live = (λ i. moment_where (used live dir.Read i || (used live dir.Write i || false)) (next_tick y.cfg.tick_ms s.plain.time))
-
-  -- and no bucket of it is empty
-  pub gains-none : (es : List SideId) → gains s (e ∷ es) ≡ gains s es
-  gains-none es = ap (λ xs. xs ++ gains s es) (gain-none (side_at s.plain e).limit refl)

@@ -1,6 +1,9 @@
 -- The earliest of two lists of moments, one after the other, is the lesser of those of each.
-use Rattle.std.proofs.Common.{◌≡◌, ℕ, ◌+◌, ◌-◌, ◌≤◌, true, ◌&&◌, min, List, [], ◌∷◌, ◌++◌, Option, Some, None, refl, sym, ◌∙◌, ap, arith}
-use Rattle.std.proofs.Common.{append-nil}
+use Rattle.std.specs.Prelude.{option_to_list}
+use Rattle.std.proofs.Common.{◌≡◌, ℕ, zero, suc, ◌+◌, ◌-◌, ◌≤◌, ◌<◌, true, ◌&&◌, min, List, [], ◌∷◌, ◌++◌, Option, Some, None, refl, sym}
+use Rattle.std.proofs.Common.{◌∙◌, ap, arith, append-nil}
+use Rattle.ev_types.specs.declared.side.Side.{Side}
+use Rattle.ev_types.specs.declared.side.Side.TheVariants.{In, Out}
 use Rattle.std.specs.List.{flat_map}
 use Rattle.token_bucket.specs.declared.limit.Dir.{Dir}
 use Rattle.token_bucket.specs.declared.limit.Dir.TheVariants as dir
@@ -10,11 +13,13 @@ use Rattle.rate_group.specs.GroupValue.{GroupValue}
 use Rattle.rate_group.specs.Gains as gains
 use Rattle.rate_group.specs.Steps.{count_in}
 use Rattle.relay_model.specs.Moments.{timeout_of, last_activity, is_timed, moment_where, both_ways, earliest}
-use Rattle.relay_model.specs.Plain.{side_at}
+use Rattle.relay_model.specs.Plain.{side_at, sides_from}
+use Rattle.relay_state.specs.Closing.{in_side, out_side}
 use Rattle.relay_state.specs.Rooms.{wants}
 use Rattle.relay_state.specs.State.{State}
 use Rattle.relay_state.specs.Time.{expiry, group_gains}
 use Rattle.relay_core.specs.Waits.{earlier, wait_until, expiries}
+use Rattle.relay_core.proofs.TimeLemmas.{sides_from-more}
 
 least_with-min : (n m : ℕ) (xs : List ℕ) → least_with (min n m) xs ≡ min n (least_with m xs)
 least_with-min n m [] = refl
@@ -43,6 +48,99 @@ earlier-assoc (Some n) (Some m) (Some k) = let a : min (min n m) k ≡ min n (mi
 pub earlier-none : (a : Option ℕ) → earlier a None ≡ a
 earlier-none None = refl
 earlier-none (Some n) = refl
+
+pub earlier-comm : (a b : Option ℕ) → earlier a b ≡ earlier b a
+earlier-comm None None = refl
+earlier-comm None (Some m) = refl
+earlier-comm (Some n) None = refl
+earlier-comm (Some n) (Some m) = let e : min n m ≡ min m n = omega arith in ap Some e
+
+earlier-self : (a : Option ℕ) → earlier a a ≡ a
+earlier-self None = refl
+earlier-self (Some n) = let e : min n n ≡ n = omega arith in ap Some e
+
+-- the earliest of two lists
+pub earliest-append : (xs ys : List ℕ) → earliest (xs ++ ys) ≡ earlier (earliest xs) (earliest ys)
+earliest-append [] ys = refl
+earliest-append (x ∷ xs) [] = ap earliest (append-nil (x ∷ xs))
+earliest-append (x ∷ xs) (y ∷ ys) = ap Some (least_with-append x y xs ys)
+
+-- of a list of one or none
+pub earliest-one : (o : Option ℕ) → earliest (option_to_list o) ≡ o
+earliest-one None = refl
+earliest-one (Some n) = refl
+
+-- of moments that two sides more have
+pub firsts_more : (f : SideId → List ℕ) (first : Option ℕ) (a b : SideId) (es : List SideId) →
+    earlier (earlier first (earlier (earliest (f a)) (earliest (f b)))) (earliest (flat_map f es))
+    ≡ earlier first (earliest (flat_map f (a ∷ b ∷ es)))
+firsts_more f first a b es =
+    let x = earliest (f a) in
+    let y = earliest (f b) in
+    let z = earliest (flat_map f es) in
+    earlier-assoc first (earlier x y) z
+    ∙ ap (earlier first) (earlier-assoc x y z ∙ ap (earlier x) (sym (earliest-append (f b) (flat_map f es)))
+    ∙ sym (earliest-append (f a) (flat_map f (b ∷ es))))
+
+-- A moment that is not before one that counts already may be left out.
+pub late-out : (f : SideId → List ℕ) (first : Option ℕ) (e : SideId) (es : List SideId) → earlier first (earliest (f e)) ≡ first →
+    earlier first (earliest (flat_map f (e ∷ es))) ≡ earlier first (earliest (flat_map f es))
+late-out f first e es late =
+    let z = earliest (flat_map f es) in
+    ap (earlier first) (earliest-append (f e) (flat_map f es)) ∙ sym (earlier-assoc first (earliest (f e)) z) ∙ ap (λ o. earlier o z) late
+
+-- and it is not before one that counts once another does too
+pub late-more : (late first more : Option ℕ) → earlier first late ≡ first → earlier (earlier first more) late ≡ earlier first more
+late-more late first more is =
+    earlier-assoc first more late ∙ ap (earlier first) (earlier-comm more late) ∙ sym (earlier-assoc first late more)
+    ∙ ap (λ o. earlier o more) is
+
+-- the moment of a side that is among them counts already
+pub counted-in : (f : SideId → List ℕ) (m : ℕ) (e : SideId) (n from : ℕ) → from ≤ e.link → e.link < n → f e ≡ m ∷ [] →
+    earlier (Some m) (earliest (flat_map f (sides_from from (n - from)))) ≡ earliest (flat_map f (sides_from from (n - from)))
+counted-in f m e n from low below is = go (e.link - from) from (omega (arith, low)) e.side refl
+  where
+    total : ℕ → Option ℕ
+    total k = earliest (flat_map f (sides_from k (n - k)))
+
+    both : (k : ℕ) → k < n → total k ≡ earlier (earliest (f (in_side k))) (earlier (earliest (f (out_side k))) (total (k + 1)))
+    both k lt =
+        ap (λ es. earliest (flat_map f es)) (sides_from-more k n lt)
+        ∙ earliest-append (f (in_side k)) (f (out_side k) ++ flat_map f (sides_from (k + 1) (n - (k + 1))))
+        ∙ ap (earlier (earliest (f (in_side k)))) (earliest-append (f (out_side k)) (flat_map f (sides_from (k + 1) (n - (k + 1)))))
+
+    swap : (a b c : Option ℕ) → earlier a (earlier b c) ≡ earlier b (earlier a c)
+    swap a b c = sym (earlier-assoc a b c) ∙ ap (λ o. earlier o c) (earlier-comm a b) ∙ earlier-assoc b a c
+
+    again : (a b : Option ℕ) → earlier a (earlier a b) ≡ earlier a b
+    again a b = sym (earlier-assoc a a b) ∙ ap (λ o. earlier o b) (earlier-self a)
+
+    own : earliest (f e) ≡ Some m
+    own = ap earliest is
+
+    at : (k : ℕ) → k < n → e.link ≡ k → (u : Side) → e.side ≡ u → earlier (Some m) (total k) ≡ total k
+    at k lt here In side =
+        let mine : earliest (f (in_side k)) ≡ Some m = ap (λ z. earliest (f z)) (λ i. record { link = sym here i; side = sym side i }) ∙ own in
+        let rest = earlier (earliest (f (out_side k))) (total (k + 1)) in
+        let sum : total k ≡ earlier (Some m) rest = both k lt ∙ ap (λ o. earlier o rest) mine in
+        ap (earlier (Some m)) sum ∙ again (Some m) rest ∙ sym sum
+    at k lt here Out side =
+        let mine : earliest (f (out_side k)) ≡ Some m = ap (λ z. earliest (f z)) (λ i. record { link = sym here i; side = sym side i })
+        ∙ own in
+        let x = earliest (f (in_side k)) in
+        let rest = earlier (Some m) (total (k + 1)) in
+        let sum : total k ≡ earlier x rest = both k lt ∙ ap (λ o. earlier x (earlier o (total (k + 1)))) mine in
+        ap (earlier (Some m)) sum ∙ swap (Some m) x rest ∙ ap (earlier x) (again (Some m) (total (k + 1))) ∙ sym sum
+
+    go : (gap k : ℕ) → k + gap ≡ e.link → (u : Side) → e.side ≡ u → earlier (Some m) (total k) ≡ total k
+    go zero k here u side = at k (omega (arith, here, below)) (omega (arith, here)) u side
+    go (suc gap) k here u side =
+        let lt : k < n = omega (arith, here, below) in
+        let x = earliest (f (in_side k)) in
+        let y = earliest (f (out_side k)) in
+        let next = go gap (k + 1) (omega (arith, here)) u side in
+        ap (earlier (Some m)) (both k lt) ∙ swap (Some m) x (earlier y (total (k + 1)))
+        ∙ ap (earlier x) (swap (Some m) y (total (k + 1)) ∙ ap (earlier y) next) ∙ sym (both k lt)
 
 -- the wait for both directions of a side
 abbrev pub side_wait : State → SideId → Option ℕ

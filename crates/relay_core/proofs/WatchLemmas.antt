@@ -16,6 +16,7 @@ use Rattle.ev_types.specs.declared.side.Side.{Side}
 use Rattle.ev_types.specs.declared.side.Side.TheVariants.{In, Out}
 use Rattle.ev_types.specs.declared.side.SideId.{SideId}
 use Rattle.ev_types.specs.Sides.{number, peer, other, half}
+use Rattle.next_moments.specs.Earliest.{moment_for, NoneIsDue}
 use Rattle.number_set.specs.Numbers.{NumberSetValue}
 use Rattle.rate_group.specs.GroupValue.{GroupsValue}
 use Rattle.rate_group.specs.Steps.{group_of, joined, spent, all_refilled, share_in}
@@ -35,7 +36,10 @@ use Rattle.relay_sides.specs.SidesValue.{SidesValue}
 use Rattle.relay_core.specs.RelayView.{IsSound, IsSoundSide}
 use Rattle.relay_core.specs.declared.ctl.Ctl.TheInside.{Inside}
 use Rattle.relay_core.proofs.RelayLemmas.{still_sound}
-use Rattle.relay_core.specs.Timeless.{leaves_some, left_by, is_halted, IsTimeless, IsWatching, IsGrouping}
+use Rattle.relay_sides.specs.KeptLimits.{limit_gains}
+use Rattle.resting_links.specs.RestingValue.{RestingValue, moment_of, HasPlaces, Wakes, Rests, Lengthens}
+use Rattle.relay_core.specs.Timeless.{leaves_some, left_by, is_halted, IsResting, IsWatching, IsGrouping}
+use Rattle.relay_core.proofs.GainLemmas.{IsAhead, gains-later}
 use Rattle.relay_core.proofs.HaltLemmas.{left-keeps, joined-keeps, joined_where-keeps, halted-joined, halted-none, halted-refilled}
 use Rattle.relay_core.proofs.HaltLemmas.{halted-spent}
 
@@ -51,13 +55,14 @@ pub record IsAlike (x y : PlainSide) : Type 0 where
 pub alike : (x : PlainSide) → IsAlike x x
 alike x = record { live = refl; timeouts = refl; expired = refl; limit = refl }
 
--- then it waits for none where it did not
-timeless-alike : (time : ℕ) (x y : PlainSide) (g : Gauge) (o : Bool) → IsAlike x y → IsTimeless time x g o → IsTimeless time y g o
-timeless-alike time x y g o a h = record {
+-- then it waits for the same moment
+resting-alike : (m : Option ℕ) (time : ℕ) (x y : PlainSide) (g : Gauge) (o : Bool) → IsAlike x y → IsResting m time x g o →
+    IsResting m time y g o
+resting-alike m time x y g o a h = record {
   reads = (λ i. a.live i && nat_le 1 (a.timeouts i).read_ms) ∙ h.reads;
   writes = (λ i. a.live i && nat_le 1 (a.timeouts i).write_ms) ∙ h.writes;
   unexpired = (λ i. a.live i && a.expired i) ∙ h.unexpired;
-  allowed = λ is d. ap (λ l. leaves_some (left_by l g d time)) a.limit ∙ h.allowed (sym a.live ∙ is) d;
+  gains = h.gains ∙ sym (λ i. if a.live i then limit_gains time g (a.limit i) else []);
   unhalted = h.unhalted;
 }
 
@@ -84,73 +89,68 @@ numbers-differ e z other same = omega (arith, same, other, half-below e.side, ha
 
 -- Time
 
--- a bucket holds no less later
-held-later : (cfg : LimitCfg) (x : Gauge) (d : Dir) (a b : ℕ) → a ≤ b → held_at cfg x d a ≤ held_at cfg x d b
-held-later cfg x dir.Read a b le =
-    let q = div-later a b cfg.tick_ms cfg.ticks le in
-    let r : cfg.read_rate * (a / cfg.tick_ms - x.time / cfg.tick_ms) ≤ cfg.read_rate * (b / cfg.tick_ms - x.time / cfg.tick_ms) =
-    mul-le-mul_left cfg.read_rate (omega (arith, q)) in
-    omega (arith, r)
-held-later cfg x dir.Write a b le =
-    let q = div-later a b cfg.tick_ms cfg.ticks le in
-    let r : cfg.write_rate * (a / cfg.tick_ms - x.time / cfg.tick_ms) ≤ cfg.write_rate * (b / cfg.tick_ms - x.time / cfg.tick_ms) =
-    mul-le-mul_left cfg.write_rate (omega (arith, q)) in
-    omega (arith, r)
-
-some-later : (n m : ℕ) → n ≤ m → nat_le 1 n ≡ true → nat_le 1 m ≡ true
-some-later n m le h = let one = leb-true 1 n h in le-leb 1 m (omega (arith, le, one))
-
-left-later : (l : Option Standing) (x : Gauge) (d : Dir) (a b : ℕ) → a ≤ b → leaves_some (left_by l x d a) ≡ true →
-    leaves_some (left_by l x d b) ≡ true
-left-later None x d a b le h = refl
-left-later (Some y) x d a b le h = some-later (held_at y.cfg x d a) (held_at y.cfg x d b) (held-later y.cfg x d a b le) h
-
 -- the same of the same
-timeless-parts : (time : ℕ) {x y : PlainSide} {g h : Gauge} {o u : Bool} → x ≡ y → g ≡ h → o ≡ u → IsTimeless time x g o →
-    IsTimeless time y h u
-timeless-parts time {y = y} {g = g} {h = h} {o = o} a b c p =
-    subst (λ z. IsTimeless time y h z) c (subst (λ z. IsTimeless time y z o) b (subst (λ z. IsTimeless time z g o) a p))
+resting-parts : (m : Option ℕ) (time : ℕ) {x y : PlainSide} {g h : Gauge} {o u : Bool} → x ≡ y → g ≡ h → o ≡ u → IsResting m time x g o →
+    IsResting m time y h u
+resting-parts m time {y = y} {g = g} {h = h} {o = o} a b c p =
+    subst (λ z. IsResting m time y h z) c (subst (λ z. IsResting m time y z o) b (subst (λ z. IsResting m time z g o) a p))
 
--- and it does not wait later where it does not wait
-timeless-later : (a b : ℕ) (x : PlainSide) (g : Gauge) (o : Bool) → a ≤ b → IsTimeless a x g o → IsTimeless b x g o
-timeless-later a b x g o le h = record {
+-- and it waits for that as long as it has not come
+resting-later : (m : Option ℕ) (a b : ℕ) (x : PlainSide) (g : Gauge) (o : Bool) → a ≤ b → IsAhead m b → IsResting m a x g o →
+    IsResting m b x g o
+resting-later m a b x g o le ahead h = record {
   reads = h.reads;
   writes = h.writes;
   unexpired = h.unexpired;
-  allowed = λ is d. left-later x.limit g d a b le (h.allowed is d);
+  gains = gains-later m a b x g le ahead h.gains;
   unhalted = h.unhalted;
 }
 
 -- Whether the watched links are right
 
-module _ (w : NumberSetValue) (time : ℕ) (k : Links) (x : GroupsValue) (h : IsWatching w time k x) where
+pub wakes-none : (w : RestingValue) → Wakes w w
+wakes-none w = record { len = refl; places = refl; grew = λ n out. out; kept = λ e out. refl; none = λ i is. is }
+
+pub wakes-then : {w v u : RestingValue} → Wakes w v → Wakes v u → Wakes w u
+wakes-then a b = record {
+  len = b.len ∙ a.len;
+  places = b.places ∙ a.places;
+  grew = λ n out. a.grew n (b.grew n out);
+  kept = λ e out. b.kept e out ∙ a.kept e (b.grew e.link out);
+  none = λ i is. b.none i (a.none i is);
+}
+
+module _ (w : RestingValue) (time : ℕ) (k : Links) (x : GroupsValue) (h : IsWatching w time k x) where
   -- Sides, or buckets, or groups changed at one side alone, which stays as it is, or whose link is watched.
-  watching-at : (v : NumberSetValue) (j : Links) (new : GroupsValue) → v.len ≡ w.len → j.opened ≡ k.opened →
-      ((e : SideId) → e.link < k.opened → v.has e.link ≡ false →
-      (w.has e.link ≡ false) × (IsTimeless time (links.side_at k e) (links.gauge_at k e) (is_halted (number e) x) →
-      IsTimeless time (links.side_at j e) (links.gauge_at j e) (is_halted (number e) new))) → IsWatching v time j new
-  watching-at v j new len opened each = record {
-    covers = let covers = h.covers in omega (arith, len, opened, covers);
+  watching-at : (v : RestingValue) (j : Links) (new : GroupsValue) → Wakes w v → j.opened ≡ k.opened →
+      ((e : SideId) → e.link < k.opened → v.watched.has e.link ≡ false → (m : Option ℕ) →
+      IsResting m time (links.side_at k e) (links.gauge_at k e) (is_halted (number e) x) →
+      IsResting m time (links.side_at j e) (links.gauge_at j e) (is_halted (number e) new)) → IsWatching v time j new
+  watching-at v j new more opened each = record {
+    covers = let covers = h.covers in let len = more.len in omega (arith, len, opened, covers);
+    places = let places = h.places in let len = more.places in omega (arith, len, opened, places);
+    absent = λ i past. more.none i (h.absent i (omega (arith, opened, past)));
     beside = λ e below out.
         let under = subst (λ n. e.link < n) opened below in
-        let keeps = each e under out in
-        keeps.1 (h.beside e under keeps.0);
+        subst (λ m. IsResting m time (links.side_at j e) (links.gauge_at j e) (is_halted (number e) new)) (sym (more.kept e out))
+        (each e under out (moment_of w e) (h.beside e under (more.grew e.link out)));
   }
+
+  -- more links are watched
+  pub watching-woken : (v : RestingValue) → Wakes w v → IsWatching v time k x
+  watching-woken v more = watching-at v k x more refl (λ e under out m p. p)
 
   -- a side changed, and not in what decides
   pub watching-alike : (j : Links) (e : SideId) (y : PlainSide) → j.sides ≡ slice_set k.sides (number e) y →
       IsAlike (links.side_at k e) y → j.gauges ≡ k.gauges → j.opened ≡ k.opened → IsWatching w time j x
   watching-alike j e y sides like gauges opened =
-      watching-at w j x refl opened (λ z under out. (
-        out,
-        λ p.
-            let P : PlainSide → Type 0 = λ u. IsTimeless time u (links.gauge_at k z) (is_halted (number z) x) in
-            let moved : P (links.side_at j z) = subst (λ xs. P (slice_index_or xs (number z) no_side)) (sym sides)
-            (set-keeps P k.sides (number e) (number z) y
-            (λ same q. timeless-alike time (links.side_at k e) y (links.gauge_at k z) (is_halted (number z) x) like q) p) in
-            subst (λ xs. IsTimeless time (links.side_at j z) (slice_index_or xs (number z) no_gauge) (is_halted (number z) x))
-            (sym gauges) moved,
-      ))
+      watching-at w j x (wakes-none w) opened (λ z under out m p.
+      let P : PlainSide → Type 0 = λ u. IsResting m time u (links.gauge_at k z) (is_halted (number z) x) in
+      let moved : P (links.side_at j z) = subst (λ xs. P (slice_index_or xs (number z) no_side)) (sym sides)
+      (set-keeps P k.sides (number e) (number z) y
+      (λ same q. resting-alike m time (links.side_at k e) y (links.gauge_at k z) (is_halted (number z) x) like q) p) in
+      subst (λ xs. IsResting m time (links.side_at j z) (slice_index_or xs (number z) no_gauge) (is_halted (number z) x))
+      (sym gauges) moved)
 
   -- with one side changed so by a function
   pub watching-changed : (j : Links) (e : SideId) (f : PlainSide → PlainSide) → j ≡ change_side e f k →
@@ -160,56 +160,43 @@ module _ (w : NumberSetValue) (time : ℕ) (k : Links) (x : GroupsValue) (h : Is
       (ap (λ (z : Links). z.gauges) is) (ap (λ (z : Links). z.opened) is)
 
   -- A link became watched: whatever became of one side of it
-  pub watching-more : (v : NumberSetValue) (j : Links) (new : GroupsValue) (e : SideId) (y : PlainSide) (g : Gauge) →
-      ((n : ℕ) → v.has n ≡ (if n == e.link then true else w.has n)) → v.len ≡ w.len →
+  pub watching-more : (v : RestingValue) (j : Links) (new : GroupsValue) (e : SideId) (y : PlainSide) (g : Gauge) →
+      Wakes w v → v.watched.has e.link ≡ true →
       j.sides ≡ slice_set k.sides (number e) y → j.gauges ≡ slice_set k.gauges (number e) g → j.opened ≡ k.opened →
       ((z : SideId) → z.link ≢ e.link → is_halted (number z) x ≡ false → is_halted (number z) new ≡ false) → IsWatching v time j new
-  watching-more v j new e y g has len sides gauges opened groups =
-      watching-at v j new len opened (λ z under out.
-      let apart : z.link == e.link ≡ false = go (z.link == e.link) (w.has z.link) (sym (has z.link) ∙ out) in
-      let other : z.link ≢ e.link = eqb-false z.link e.link apart in
+  watching-more v j new e y g more there sides gauges opened groups =
+      watching-at v j new more opened (λ z under out m p.
+      let other : z.link ≢ e.link = (λ same. absurd (let t : true ≡ false = sym there ∙ ap v.watched.has (sym same) ∙ out in cc)) in
       let differ = numbers-differ e z other in
       let side : links.side_at j z ≡ links.side_at k z = ap (λ xs. slice_index_or xs (number z) no_side) sides
       ∙ get_or-set_other k.sides (number e) (number z) y no_side differ in
       let gauge : links.gauge_at j z ≡ links.gauge_at k z = ap (λ xs. slice_index_or xs (number z) no_gauge) gauges
-      ∙ get_or-set_other k.gauges (number e) (number z) g no_gauge differ in (
-        sym (ap (λ b. if b then true else w.has z.link) apart) ∙ sym (has z.link) ∙ out,
-        λ p.
-            timeless-parts time (sym side) (sym gauge) (p.unhalted ∙ sym (groups z other p.unhalted)) p,
-      ))
-    where
-      go : (b c : Bool) → (if b then true else c) ≡ false → b ≡ false
-      go true c q = q
-      go false c q = refl
+      ∙ get_or-set_other k.gauges (number e) (number z) g no_gauge differ in
+      resting-parts m time (sym side) (sym gauge) (p.unhalted ∙ sym (groups z other p.unhalted)) p)
 
   -- Bytes were moved at a side, whose link is watched if the side has a limit.
-  pub watching-spent : (v : NumberSetValue) (j : Links) (e : SideId) (d : Dir) (n : ℕ) (limited : Bool) →
-      ((m : ℕ) → v.has m ≡ (if m == e.link then limited || w.has e.link else w.has m)) → v.len ≡ w.len →
+  pub watching-spent : (v : RestingValue) (j : Links) (e : SideId) (d : Dir) (n : ℕ) (limited : Bool) →
+      Wakes w v → (limited ≡ true → v.watched.has e.link ≡ true) →
       limited ≡ is_some (links.allowance_at time k e d) →
       j ≡ links.bucket_spent time e d n k → IsWatching v time j x
-  watching-spent v j e d n limited has len told is =
-      watching-at v j x len (ap (λ (z : Links). z.opened) is) (λ z under out.
-      let sides : j.sides ≡ k.sides = ap (λ (l : Links). l.sides) is in
+  watching-spent v j e d n limited more there told is =
+      watching-at v j x more (ap (λ (z : Links). z.opened) is) (λ z under out m p.
       let gauges : j.gauges ≡ slice_set k.gauges (number e) (gauge_after (links.side_at k e).limit time d n (links.gauge_at k e)) =
       ap (λ (l : Links). l.gauges) is in
-      let side : links.side_at j z ≡ links.side_at k z = ap (λ xs. slice_index_or xs (number z) no_side) sides in
+      let side : links.side_at j z ≡ links.side_at k z = ap (λ (l : Links). slice_index_or l.sides (number z) no_side) is in
       elim (eqb_tells z.link e.link) [
         | inl here ↦
-            let member : (limited || w.has e.link) ≡ false = sym (ap (λ b. if b then limited || w.has e.link else w.has z.link) here.0)
-            ∙ sym (has z.link) ∙ out in
-            let parts = or_parts limited (w.has e.link) member in
-            let free : is_some (links.allowance_at time k e d) ≡ false = sym told ∙ parts.0 in
+            let free : is_some (links.allowance_at time k e d) ≡ false = sym told
+            ∙ not_limited limited there (ap v.watched.has (sym here.1) ∙ out) in
             let same : gauge_after (links.side_at k e).limit time d n (links.gauge_at k e) ≡ links.gauge_at k e =
             unlimited (links.side_at k e).limit (links.gauge_at k e) d n free in
             let gauge : links.gauge_at j z ≡ links.gauge_at k z = ap (λ xs. slice_index_or xs (number z) no_gauge)
             (gauges ∙ ap (slice_set k.gauges (number e)) same ∙ set-get_or k.gauges (number e) no_gauge) in
-            (ap w.has here.1 ∙ parts.1, λ p. timeless-parts time (sym side) (sym gauge) refl p)
+            resting-parts m time (sym side) (sym gauge) refl p
         | inr other ↦
             let gauge : links.gauge_at j z ≡ links.gauge_at k z = ap (λ xs. slice_index_or xs (number z) no_gauge) gauges
-            ∙ get_or-set_other k.gauges (number e) (number z) _ no_gauge (numbers-differ e z other.1) in (
-              sym (ap (λ b. if b then limited || w.has e.link else w.has z.link) other.0) ∙ sym (has z.link) ∙ out,
-              λ p. timeless-parts time (sym side) (sym gauge) refl p,
-            )
+            ∙ get_or-set_other k.gauges (number e) (number z) _ no_gauge (numbers-differ e z other.1) in
+            resting-parts m time (sym side) (sym gauge) refl p
       ])
     where
       unlimited : (l : Option Standing) (x : Gauge) (d : Dir) (n : ℕ) → is_some (left_by l x d time) ≡ false →
@@ -217,11 +204,18 @@ module _ (w : NumberSetValue) (time : ℕ) (k : Links) (x : GroupsValue) (h : Is
       unlimited None x d n none = refl
       unlimited (Some y) x d n none = absurd (let wrong : true ≡ false = none in cc)
 
-  -- it is later
-  pub watching-later : (to : ℕ) → time ≤ to → IsWatching w to k x
-  watching-later to le = record {
+      not_limited : (b : Bool) → (b ≡ true → v.watched.has e.link ≡ true) → v.watched.has e.link ≡ false → b ≡ false
+      not_limited false there out = refl
+      not_limited true there out = absurd (let wrong : true ≡ false = sym (there refl) ∙ out in cc)
+
+  -- it is later, and no moment has come
+  pub watching-later : (to : ℕ) → time ≤ to → NoneIsDue w.moments to → IsWatching w to k x
+  watching-later to le none_due = record {
     covers = h.covers;
-    beside = λ e below out. timeless-later time to (links.side_at k e) (links.gauge_at k e) (is_halted (number e) x) le
+    places = h.places;
+    absent = h.absent;
+    beside = λ e below out.
+        resting-later (moment_of w e) time to (links.side_at k e) (links.gauge_at k e) (is_halted (number e) x) le (none_due (number e))
         (h.beside e below out);
   }
 
@@ -235,21 +229,19 @@ module _ (w : NumberSetValue) (time : ℕ) (k : Links) (x : GroupsValue) (h : Is
 
       watching-two : (j : Links) → j.sides ≡ (change_side (peer e) (with_bad q.to_bad) mid).sides → j.gauges ≡ k.gauges →
           j.opened ≡ k.opened → IsWatching w time j x
-      watching-two j sides gauges opened = record {
-        covers = let covers = h.covers in omega (arith, opened, covers);
-        beside = λ z below out.
-            let g : Gauge = links.gauge_at k z in
-            let o : Bool = is_halted (number z) x in
-            let P : PlainSide → Type 0 = λ y. IsTimeless time y g o in
-            let bad = λ (y : PlainSide) (b : Option ℕ) (p : P y). timeless-alike time y (with_bad b y) g o
-            (record { live = refl; timeouts = refl; expired = refl; limit = refl }) p in
-            let one = set-keeps P k.sides (number e) (number z) (with_bad q.from_bad (links.side_at k e))
-            (λ same p. bad (links.side_at k e) q.from_bad p) (h.beside z (subst (λ n. z.link < n) opened below) out) in
-            let two = set-keeps P mid.sides (number (peer e)) (number z) (with_bad q.to_bad (links.side_at mid (peer e)))
-            (λ same p. bad (links.side_at mid (peer e)) q.to_bad p) one in
-            timeless-parts time (ap (λ xs. slice_index_or xs (number z) no_side) (sym sides))
-            (ap (λ xs. slice_index_or xs (number z) no_gauge) (sym gauges)) refl two;
-      }
+      watching-two j sides gauges opened =
+          watching-at w j x (wakes-none w) opened (λ z below out m p.
+          let g : Gauge = links.gauge_at k z in
+          let o : Bool = is_halted (number z) x in
+          let P : PlainSide → Type 0 = λ y. IsResting m time y g o in
+          let bad = λ (y : PlainSide) (b : Option ℕ) (p : P y). resting-alike m time y (with_bad b y) g o
+          (record { live = refl; timeouts = refl; expired = refl; limit = refl }) p in
+          let one = set-keeps P k.sides (number e) (number z) (with_bad q.from_bad (links.side_at k e))
+          (λ same p. bad (links.side_at k e) q.from_bad p) p in
+          let two = set-keeps P mid.sides (number (peer e)) (number z) (with_bad q.to_bad (links.side_at mid (peer e)))
+          (λ same p. bad (links.side_at mid (peer e)) q.to_bad p) one in
+          resting-parts m time (ap (λ xs. slice_index_or xs (number z) no_side) (sym sides))
+          (ap (λ xs. slice_index_or xs (number z) no_gauge) (sym gauges)) refl two)
 
   pub watching-passed : (hold : ℕ) (j : Links) (e : SideId) (T E : Type 0) (result : Result T E) →
       MatchResult result (λ _. links.PassedFrom hold k e j) (λ _. links.PartlyPassed hold k e j) → IsWatching w time j x
@@ -257,26 +249,60 @@ module _ (w : NumberSetValue) (time : ℕ) (k : Links) (x : GroupsValue) (h : Is
   watching-passed hold j e T E (Err a) p = watching-passage j e p.0 p.2
 
   -- there are more places
-  pub watching-wider : (v : NumberSetValue) → w.len ≤ v.len → ((n : ℕ) → v.has n ≡ w.has n) → IsWatching v time k x
-  watching-wider v len has = record {
-    covers = let covers = h.covers in omega (arith, covers, len);
-    beside = λ e below out. h.beside e below (sym (has e.link) ∙ out);
+  pub watching-wider : (v : RestingValue) → Lengthens w v → IsWatching v time k x
+  watching-wider v more = record {
+    covers = let covers = h.covers in let len = more.len in omega (arith, covers, len);
+    places = let places = h.places in let len = more.places in omega (arith, places, len);
+    absent = λ i past. more.moments i ∙ h.absent i past;
+    beside = λ e below out.
+        subst (λ m. IsResting m time (links.side_at k e) (links.gauge_at k e) (is_halted (number e) x)) (sym (more.moments (number e)))
+        (h.beside e below (sym (more.has e.link) ∙ out));
   }
 
-  -- a link is watched no more whose sides wait for no moment
-  pub watching-fewer : (v : NumberSetValue) (link : ℕ) → v.len ≡ w.len → ((n : ℕ) → v.has n ≡ (if n == link then false else w.has n)) →
-      ((e : SideId) → e.link ≡ link → IsTimeless time (links.side_at k e) (links.gauge_at k e) (is_halted (number e) x)) →
+  -- a link is watched no more whose sides wait for the moments that they get
+  pub watching-fewer : (v : RestingValue) (near : SideId) (a b : Option ℕ) → near.side ≡ In → near.link < k.opened →
+      Rests near.link a b w v →
+      IsResting a time (links.side_at k near) (links.gauge_at k near) (is_halted (number near) x) →
+      IsResting b time (links.side_at k (peer near)) (links.gauge_at k (peer near)) (is_halted (number (peer near)) x) →
       IsWatching v time k x
-  watching-fewer v link len has none = record {
-    covers = let covers = h.covers in omega (arith, covers, len);
-    beside = λ e below out. elim (eqb_tells e.link link) [
-      | inl here ↦ none e here.1
-      | inr other ↦ h.beside e below (sym (ap (λ b. if b then false else w.has e.link) other.0) ∙ sym (has e.link) ∙ out)
+  watching-fewer v near a b is below rest first second = record {
+    covers = let covers = h.covers in let len = rest.len in omega (arith, covers, len);
+    places = let places = h.places in let len = rest.places in omega (arith, places, len);
+    absent = λ i past. rest.kept i (omega (arith, past, below)) (omega (arith, past, below)) ∙ h.absent i past;
+    beside = λ e under out. elim (eqb_tells e.link near.link) [
+      | inl here ↦ own e here.1 e.side refl
+      | inr other ↦
+          subst (λ m. IsResting m time (links.side_at k e) (links.gauge_at k e) (is_halted (number e) x))
+          (sym (rest.kept (number e) (away e other.1) (away-far e other.1)))
+          (h.beside e under (sym (ap (λ b. if b then false else w.watched.has e.link) other.0) ∙ sym (rest.has e.link) ∙ out))
     ];
   }
+    where
+      away : (e : SideId) → e.link ≢ near.link → number e ≢ 2 * near.link
+      away e other same = let low = half-below e.side in other (omega (arith, same, low))
+
+      away-far : (e : SideId) → e.link ≢ near.link → number e ≢ 2 * near.link + 1
+      away-far e other same = let low = half-below e.side in other (omega (arith, same, low))
+
+      at : (m : Option ℕ) (u v : SideId) → u ≡ v → IsResting m time (links.side_at k u) (links.gauge_at k u) (is_halted (number u) x) →
+          IsResting m time (links.side_at k v) (links.gauge_at k v) (is_halted (number v) x)
+      at m u v e p = subst (λ z. IsResting m time (links.side_at k z) (links.gauge_at k z) (is_halted (number z) x)) e p
+
+      own : (e : SideId) → e.link ≡ near.link → (u : Side) → e.side ≡ u →
+          IsResting (moment_of v e) time (links.side_at k e) (links.gauge_at k e) (is_halted (number e) x)
+      own e here In side =
+          let same : near ≡ e = (λ i. record { link = sym here i; side = (is ∙ sym side) i }) in
+          let place : number e ≡ 2 * near.link = (let p = ap half side in omega (arith, here, p)) in
+          subst (λ m. IsResting m time (links.side_at k e) (links.gauge_at k e) (is_halted (number e) x))
+          (sym (ap (moment_for v.moments) place ∙ rest.near)) (at a near e same first)
+      own e here Out side =
+          let same : peer near ≡ e = (λ i. record { link = sym here i; side = (ap other is ∙ sym side) i }) in
+          let place : number e ≡ 2 * near.link + 1 = (let p = ap half side in omega (arith, here, p)) in
+          subst (λ m. IsResting m time (links.side_at k e) (links.gauge_at k e) (is_halted (number e) x))
+          (sym (ap (moment_for v.moments) place ∙ rest.far)) (at b (peer near) e same second)
 
 -- bytes were got
-pub watching-got : (w : NumberSetValue) (time : ℕ) (k j : Links) (x : GroupsValue) (e : SideId) (bytes : List ℕ) →
+pub watching-got : (w : RestingValue) (time : ℕ) (k j : Links) (x : GroupsValue) (e : SideId) (bytes : List ℕ) →
     IsWatching w time k x → j ≡ links.after_got time e bytes k → IsWatching w time j x
 watching-got w time k j x e bytes h is =
     let grown : Links = links.with_got time e bytes k in
@@ -285,45 +311,48 @@ watching-got w time k j x e bytes h is =
     watching-passage w time grown x mid j e (read_part (links.read_mark grown e) false (links.passage_at grown e)) is
 
 -- bytes were taken
-pub watching-took : (w : NumberSetValue) (time : ℕ) (k j : Links) (x : GroupsValue) (e : SideId) (n : ℕ) →
+pub watching-took : (w : RestingValue) (time : ℕ) (k j : Links) (x : GroupsValue) (e : SideId) (n : ℕ) →
     IsWatching w time k x → j ≡ links.after_took time e n k → IsWatching w time j x
 watching-took w time k j x e n h is =
     watching-alike w time k x h j e (active_at time dir.Write (links.side_at k e)) (ap (λ (z : Links). z.sides) is)
     (alike-active time dir.Write (links.side_at k e)) (ap (λ (z : Links). z.gauges) is) (ap (λ (z : Links). z.opened) is)
 
 -- groups were refilled
-pub watching-refilled : (w : NumberSetValue) (time ms : ℕ) (k : Links) (x y : GroupsValue) → y ≡ all_refilled ms x →
+pub watching-refilled : (w : RestingValue) (time ms : ℕ) (k : Links) (x y : GroupsValue) → y ≡ all_refilled ms x →
     IsWatching w time k x → IsWatching w time k y
-watching-refilled w time ms k x y is h = subst (IsWatching w time k) (sym is) (record {
-  covers = h.covers;
-  beside = λ e below out.
-      let p = h.beside e below out in
-      timeless-parts time refl refl (p.unhalted ∙ sym (halted-refilled ms (number e) x p.unhalted)) p;
-})
+watching-refilled w time ms k x y is h =
+    watching-at w time k x h w k y (wakes-none w) refl (λ e below out m p.
+    resting-parts m time refl refl
+    (p.unhalted ∙ sym (halted-refilled ms (number e) x p.unhalted) ∙ ap (is_halted (number e)) (sym is)) p)
 
 -- A member moved bytes. Where its share is nothing then, all members are watched.
-pub watching-shared : (w v grouped : NumberSetValue) (time : ℕ) (k : Links) (x y : GroupsValue) (mover : ℕ) (d : Dir) (n : ℕ)
-    (free : Bool) →
-    IsWatching w time k x → IsGrouping grouped k.opened x.members → v.len ≡ w.len →
-    ((m : ℕ) → m < w.len → v.has m ≡ ((not free && grouped.has m) || w.has m)) →
+pub watching-shared : (w v : RestingValue) (grouped : NumberSetValue) (time : ℕ) (k : Links) (x y : GroupsValue) (mover : ℕ) (d : Dir)
+    (n : ℕ) (free : Bool) →
+    IsWatching w time k x → IsGrouping grouped k.opened x.members → Wakes w v →
+    (not free ≡ true → (m : ℕ) → HasPlaces (m + 1) w → grouped.has m ≡ true → v.watched.has m ≡ true) →
     y ≡ spent mover d n x → free ≡ leaves_some (share_in mover d y) → IsWatching v time k y
-watching-shared w v grouped time k x y mover d n free h g len has is told = record {
-  covers = let covers = h.covers in omega (arith, covers, len);
-  beside = λ e below out.
-      let parts = or_parts (not free && grouped.has e.link) (w.has e.link)
-      (sym (has e.link (let covers = h.covers in omega (arith, covers, below))) ∙ out) in
-      let p = h.beside e below parts.1 in
-      timeless-parts time refl refl (p.unhalted ∙ sym (still e below parts.0 p.unhalted free refl)) p;
-}
+watching-shared w v grouped time k x y mover d n free h g more all is told =
+    watching-at w time k x h v k y more refl (λ e below out m p.
+    resting-parts m time refl refl (p.unhalted ∙ sym (still e below out p.unhalted free refl)) p)
   where
-    still : (e : SideId) → e.link < k.opened → (not free && grouped.has e.link) ≡ false → is_halted (number e) x ≡ false → (b : Bool) →
+    no_member : (e : SideId) → e.link < k.opened → v.watched.has e.link ≡ false → free ≡ false → (b : Bool) → grouped.has e.link ≡ b →
+        b ≡ false
+    no_member e below out none false is = refl
+    no_member e below out none true is =
+        let places = h.places in
+        let covers = h.covers in
+        let wrong : true ≡ false =
+        sym (all (ap not none) e.link (omega (arith, covers, below), omega (arith, places, below)) is) ∙ out in
+        absurd (cc wrong)
+
+    still : (e : SideId) → e.link < k.opened → v.watched.has e.link ≡ false → is_halted (number e) x ≡ false → (b : Bool) →
         free ≡ b → is_halted (number e) y ≡ false
-    still e below none was true f =
+    still e below out was true f =
         ap (is_halted (number e)) is
         ∙ halted-spent mover d n (number e) x (ap (λ z. leaves_some (share_in mover d z)) (sym is) ∙ sym told ∙ f) was
-    still e below none was false f =
-        let out : grouped.has e.link ≡ false = sym (ap (λ b. not b && grouped.has e.link) f) ∙ none in
-        ap (is_halted (number e)) is ∙ halted-none (number e) (spent mover d n x) (g.beside e below out)
+    still e below out was false f =
+        ap (is_halted (number e)) is
+        ∙ halted-none (number e) (spent mover d n x) (g.beside e below (let b = no_member e below out f (grouped.has e.link) refl in b))
 
 -- Members
 
@@ -415,32 +444,33 @@ old-place : {A : Type 0} (n : ℕ) (xs ys : List A) (d : A) (z : SideId) → len
 old-place n xs ys d z many below = get_or_append_left xs ys d (number z) (omega (arith, many, below, half-below z.side))
 
 -- A link was opened, which is watched.
-pub watching-opened : (w v : NumberSetValue) (time turn : ℕ) (k j : Links) (x y z : GroupsValue) (near far : NewSide) (a b : SideId) →
-    IsWatching w time k x → length k.sides ≡ 2 * k.opened → length k.gauges ≡ 2 * k.opened → k.opened + 1 ≤ w.len →
-    ((n : ℕ) → v.has n ≡ (if n == k.opened then true else w.has n)) → v.len ≡ w.len →
+pub watching-opened : (w v : RestingValue) (time turn : ℕ) (k j : Links) (x y z : GroupsValue) (near far : NewSide) (a b : SideId) →
+    IsWatching w time k x → length k.sides ≡ 2 * k.opened → length k.gauges ≡ 2 * k.opened → HasPlaces (k.opened + 1) w →
+    Wakes w v → v.watched.has k.opened ≡ true →
     j ≡ with_link time turn near far k → a.link ≡ k.opened → b.link ≡ k.opened →
     y ≡ joined_where near.group a x → z ≡ joined_where far.group b y → IsWatching v time j z
-watching-opened w v time turn k j x y z near far a b h sides gauges room has len is at_a at_b first second = record {
-  covers = let count : j.opened ≡ k.opened + 1 = ap (λ (l : Links). l.opened) is in omega (arith, count, len, room);
+watching-opened w v time turn k j x y z near far a b h sides gauges room more there is at_a at_b first second = record {
+  covers = let len = more.len in let places = room.0 in omega (arith, count, len, places);
+  places = let len = more.places in let places = room.1 in omega (arith, count, len, places);
+  absent = λ i past. more.none i (h.absent i (omega (arith, count, past)));
   beside = λ e below out.
-      let count : j.opened ≡ k.opened + 1 = ap (λ (l : Links). l.opened) is in
-      elim (eqb_tells e.link k.opened) [
-        | inl new ↦ absurd (let t : true ≡ false = sym (ap (λ c. if c then true else w.has e.link) new.0) ∙ sym (has e.link) ∙ out in cc)
-        | inr old ↦
-            let under : e.link < k.opened = (let other = old.1 in omega (arith, below, count, other)) in
-            let was : w.has e.link ≡ false = sym (ap (λ c. if c then true else w.has e.link) old.0) ∙ sym (has e.link) ∙ out in
-            let p = h.beside e under was in
-            let not_a : number e ≢ number a = numbers-differ a e (λ q. old.1 (q ∙ at_a)) in
-            let not_b : number e ≢ number b = numbers-differ b e (λ q. old.1 (q ∙ at_b)) in
-            let one : is_halted (number e) y ≡ false = ap (is_halted (number e)) first
-            ∙ halted-joined near.group a (number e) x not_a p.unhalted in
-            let two : is_halted (number e) z ≡ false = ap (is_halted (number e)) second
-            ∙ halted-joined far.group b (number e) y not_b one in
-            let side = ap (λ (l : Links). links.side_at l e) is ∙ old-place k.opened k.sides _ no_side e sides under in
-            let gauge = ap (λ (l : Links). links.gauge_at l e) is ∙ old-place k.opened k.gauges _ no_gauge e gauges under in
-            timeless-parts time (sym side) (sym gauge) (p.unhalted ∙ sym two) p
-      ];
+      let other : e.link ≢ k.opened = (λ same. absurd (let t : true ≡ false = sym there ∙ ap v.watched.has (sym same) ∙ out in cc)) in
+      let under : e.link < k.opened = omega (arith, below, count, other) in
+      let p = h.beside e under (more.grew e.link out) in
+      let not_a : number e ≢ number a = numbers-differ a e (λ q. other (q ∙ at_a)) in
+      let not_b : number e ≢ number b = numbers-differ b e (λ q. other (q ∙ at_b)) in
+      let one : is_halted (number e) y ≡ false = ap (is_halted (number e)) first
+      ∙ halted-joined near.group a (number e) x not_a p.unhalted in
+      let two : is_halted (number e) z ≡ false = ap (is_halted (number e)) second
+      ∙ halted-joined far.group b (number e) y not_b one in
+      let side = ap (λ (l : Links). links.side_at l e) is ∙ old-place k.opened k.sides _ no_side e sides under in
+      let gauge = ap (λ (l : Links). links.gauge_at l e) is ∙ old-place k.opened k.gauges _ no_gauge e gauges under in
+      subst (λ m. IsResting m time (links.side_at j e) (links.gauge_at j e) (is_halted (number e) z)) (sym (more.kept e out))
+      (resting-parts (moment_of w e) time (sym side) (sym gauge) (p.unhalted ∙ sym two) p);
 }
+  where
+    count : j.opened ≡ k.opened + 1
+    count = ap (λ (l : Links). l.opened) is
 
 -- What is kept of the relay stays sound as a side changes.
 
@@ -469,7 +499,7 @@ changed_sound r s e f h is like = record {
       (like (links.side_at r.sides.links e)) p)
       (ap (λ (z : Links). z.sides) is) (ap (λ (z : Links). z.gauges) is);
   grouped = h.grouped;
-  watching = watching-changed r.watched r.time r.sides.links r.groups.value h.watching s.links e f is (λ x. (like x).alike);
+  watching = watching-changed r.resting r.time r.sides.links r.groups.value h.watching s.links e f is (λ x. (like x).alike);
   grouping = grouping-at r.grouped r.sides.links.opened s.links.opened r.groups.value.members (ap (λ (z : Links). z.opened) is) h.grouping;
   time = h.time;
   few = h.few;

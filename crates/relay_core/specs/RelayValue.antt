@@ -1,10 +1,11 @@
 -- What contracts see of the relay: its state, for how many more links there is room, and for each side how many bytes of a read there
--- is room for; whether no side has a timeout; and of the hook that runs, or ran last, whose it is, how many asks it made, whether it
+-- is room for; whether no side has a timeout, and which links are watched; and of the hook that runs, or ran last, whose it is, how many asks it made, whether it
 -- stopped the run, the events of what it asked, and for how many of them there is room.
 use Rattle.std.specs.Prelude.{ℕ, Bool, List, slice_index_or}
 use Rattle.ev_types.specs.declared.side.SideId.{SideId}
 use Rattle.ev_types.specs.Sides.{number}
 use Rattle.ev_types.specs.Trace.{Trace}
+use Rattle.number_set.specs.Numbers.{NumberSetValue}
 use Rattle.relay_state.specs.State.{State}
 
 pub record RelayValue : Type 0 where
@@ -12,6 +13,7 @@ pub record RelayValue : Type 0 where
   pub spare_links : ℕ
   pub spare_reads : List ℕ
   pub untimed : Bool
+  pub watched : NumberSetValue
   pub me : SideId
   pub asks : ℕ
   pub stopped : Bool

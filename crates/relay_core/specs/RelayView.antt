@@ -46,7 +46,8 @@ state_with r k = state_over r k r.waits
 -- There is memory for the limits of a new link, room for its sides in the groups, and a place among those that may be watched.
 abbrev pub has_room_for_rates : Inside → Bool
 has_room_for_rates r =
-    nat_le (r.sides.links.opened + 1) r.watched.len
+    nat_le (r.sides.links.opened + 1) r.resting.watched.len
+    && nat_le (2 * (r.sides.links.opened + 1)) (length r.resting.moments)
     && nat_le (r.sides.links.opened + 1) r.grouped.len
     && nat_le (limits_in r.settings.in_rate + limits_in r.settings.out_rate) r.spare_limits
     && (nat_le (length r.given.groups.items) 0 || nat_le 2 r.groups.spare)
@@ -57,6 +58,7 @@ relay_of r = record {
   spare_links = if has_room_for_rates r then r.sides.spare_links else 0;
   spare_reads = r.sides.spare_reads;
   untimed = r.untimed;
+  watched = r.resting.watched;
   me = r.me;
   asks = r.asks;
   stopped = r.stopped;
@@ -98,7 +100,7 @@ pub record HasGroups (given : RateGroups) (still : Bool) (x : GroupsValue) : Typ
 pub record IsSound (r : Inside) : Type 0 where
   pub timed : AreSound r.settings r.time r.untimed r.sides.links
   pub grouped : HasGroups r.given r.untimed r.groups.value
-  pub watching : IsWatching r.watched r.time r.sides.links r.groups.value
+  pub watching : IsWatching r.resting r.time r.sides.links r.groups.value
   pub grouping : IsGrouping r.grouped r.sides.links.opened r.groups.value.members
   pub time : r.time ≤ 2 ^ 62
   pub few : r.asks ≤ 256

@@ -113,7 +113,7 @@ impl Ctl {
     {
         self.may_ask(Act::Timeouts(side, read_ms, write_ms))?;
         self.untimed = self.untimed && read_ms == 0 && write_ms == 0;
-        self.watched.insert(side.link as usize);
+        self.resting.watch(side.link as usize);
         self.sides.set_timeouts(side, read_ms, write_ms, self.time);
         self.record(Act::Timeouts(side, read_ms, write_ms), AskAnswer::Ok);
         Ok(())
@@ -130,7 +130,7 @@ impl Ctl {
     {
         self.may_ask(Act::Rate(side, cfg))?;
         self.untimed = self.untimed && cfg.is_none();
-        self.watched.insert(side.link as usize);
+        self.resting.watch(side.link as usize);
         let spare = &mut self.spare_limits;
         self.sides
             .set_limit(side, cfg, self.time, self.turns, spare);
@@ -158,7 +158,7 @@ impl Ctl {
             self.record(Act::Join(side, group), AskAnswer::Memory);
             return Err(AskFault::Memory);
         }
-        self.watched.insert(side.link as usize);
+        self.resting.watch(side.link as usize);
         self.grouped.insert(side.link as usize);
         self.sides.set_group(side, Some(group));
         self.record(Act::Join(side, group), AskAnswer::Ok);
@@ -174,7 +174,7 @@ impl Ctl {
         ensures { AsksOnce self.old (act.Leave side) (answer_of result) self.new }
     {
         self.may_ask(Act::Leave(side))?;
-        self.watched.insert(side.link as usize);
+        self.resting.watch(side.link as usize);
         leave(&mut self.groups, side);
         self.sides.set_group(side, None);
         self.record(Act::Leave(side), AskAnswer::Ok);

@@ -14,6 +14,7 @@ use number_set::NumberSet;
 use rate_group::Groups;
 use relay_sides::{Dir, Sides, SpareLimits};
 use relay_waits::Waits;
+use resting_links::RestingLinks;
 use std::marker::Model;
 
 /// The relay's own state, as a hook that runs is lent it. The hook asks by the calls that answer an `AskFault`: each is refused or done at
@@ -27,8 +28,9 @@ pub struct Ctl {
     pub(crate) given: RateGroups,
     /// Whether nothing but timers depends on the time: no side has a timeout or a limit, and there are no groups.
     pub(crate) untimed: bool,
-    /// The links at which time may change something: a side that is not of one of them waits for no moment.
-    pub(crate) watched: NumberSet,
+    /// The links at which time may change something, and for each side of another one the moment at which its limit gives it more, if that
+    /// gives it nothing now.
+    pub(crate) resting: RestingLinks,
     /// The links of which a side may be in a group.
     pub(crate) grouped: NumberSet,
     pub(crate) time: u64,
@@ -49,7 +51,12 @@ pub struct Ctl {
 impl Model for Ctl {
     ghost use Rattle.relay_core.specs.RelayValue.{RelayValue};
 
+    ghost use Rattle.std.specs.Coded.{codes};
+    ghost use Rattle.number_set.specs.Code.{number_set_code};
+
     ghost Value = { RelayValue };
+
+    ghost coded = { Prim.hlevel (codes, number_set_code) };
 
     ghost use Rattle.relay_core.specs.RelayView.{relay_of, IsSound};
 
@@ -80,6 +87,7 @@ impl Ctl {
     pub(crate) fn raise(&mut self, side: SideId, why: Why)
         ensures state { self.new.state ≡ with_plain (raise self.old.state.settings side why self.old.state.plain) self.old.state }
         ensures fire { SameFire self.old self.new }
+        ensures watched { self.new.watched ≡ self.old.watched }
     {
         if self.waits.has_hook(side) && self.live(side) {
             self.waits.raise(side, why);
@@ -122,7 +130,7 @@ impl Ctl {
     {
         self.sides.free(side);
         self.waits.forget(side);
-        self.watched.insert(side.link as usize);
+        self.resting.watch(side.link as usize);
         leave(&mut self.groups, side);
     }
 

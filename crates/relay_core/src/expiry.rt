@@ -5,14 +5,15 @@ ghost use Rattle.std.specs.List.{list_any, flat_map};
 ghost use Rattle.ev_types.specs.declared.why.Why.TheVariants.{Event};
 ghost use Rattle.relay_model.specs.Plain.{side_at, change_side, all_sides};
 ghost use Rattle.relay_model.specs.Reasons.{raise, happened, timeout_flag};
-ghost use Rattle.relay_model.specs.Moments.{is_timed, active_at, both_ways, is_pressing, timers_taken, has_run_out, expire};
+ghost use Rattle.relay_model.specs.Moments.{is_timed, active_at, both_ways, earliest, is_pressing, timers_taken, has_run_out, expire};
 ghost use Rattle.relay_model.specs.Turn.{turned_to};
 ghost use Rattle.relay_state.specs.State.{with_plain};
 ghost use Rattle.relay_state.specs.Closing.{in_side, out_side};
 ghost use Rattle.relay_state.specs.Rooms.{wants};
 ghost use Rattle.relay_state.specs.Time.{expiry, group_gains, moments, timed, side_timed, begun, poll_timeout};
 ghost use Rattle.relay_core.specs.Rateless.{HasNoRates};
-ghost use Rattle.relay_core.specs.Waits.{earlier, wait_until, is_expired, expiries, gain_of, gains};
+ghost use Rattle.relay_core.specs.Timeless.{HasAllOf, AreLeftAlikeBeside};
+ghost use Rattle.relay_core.specs.Waits.{earlier, wait_until, is_expired, expiries, gains};
 
 use crate::relay::Relay;
 use ev_types::{Flags, Side, SideId, Why};
@@ -66,6 +67,7 @@ impl Relay {
         requires { side.link < self.old.state.plain.opened }
         ensures state { self.new.state ≡ timed side self.old.state dir }
         ensures untimed { self.new.untimed ≡ self.old.untimed }
+        ensures watched { HasAllOf self.old.watched self.new.watched }
     {
         if !self.ctl.is_timed(side, dir) {
             return;
@@ -73,7 +75,7 @@ impl Relay {
         if !self.wants(side, dir) {
             self.ctl.sides.be_active(side, dir, self.ctl.time);
         } else if self.has_run_out(side, dir) {
-            self.ctl.watched.insert(side.link as usize);
+            self.ctl.resting.watch(side.link as usize);
             self.ctl.sides.expire(side, dir);
             self.ctl.raise(side, Why::Event(timeout_flags(dir)));
         }
@@ -84,6 +86,7 @@ impl Relay {
         requires { side.link < self.old.state.plain.opened }
         ensures state { self.new.state ≡ side_timed self.old.state side }
         ensures untimed { self.new.untimed ≡ self.old.untimed }
+        ensures watched { HasAllOf self.old.watched self.new.watched }
         ensures opened { self.new.state.plain.opened ≡ self.old.state.plain.opened }
     {
         self.look_at(side, Dir::Read);
@@ -95,6 +98,7 @@ impl Relay {
         ensures state { self.new.state ≡ fold side_timed self.old.state (all_sides self.old.state.plain) }
         ensures still { self.old.untimed ≡ true → self.new.state ≡ self.old.state }
         ensures untimed { self.new.untimed ≡ self.old.untimed }
+        ensures watched { HasAllOf self.old.watched self.new.watched }
     {
         if self.ctl.untimed {
             return;
@@ -111,23 +115,27 @@ impl Relay {
         }
     }
 
-    /// A reading of the clock becomes the time, of one turn more.
+    /// A reading of the clock becomes the time, of one turn more. The links are watched of which a side rested until then.
     fn turn_to(&mut self, reading: u64) -> u64
         requires { self.old.state.plain.turn < 2 ^ 62 }
         ensures time { result ≡ max self.old.state.plain.time (min reading (2 ^ 62)) }
         ensures state { self.new.state ≡ with_plain (turned_to result self.old.state.plain) self.old.state }
         ensures rateless { self.old.untimed ≡ true → HasNoRates self.old.state }
         ensures untimed { self.new.untimed ≡ self.old.untimed }
+        ensures alike { AreLeftAlikeBeside self.new.watched result self.old.state }
     {
+        let time = self.ctl.time.max(reading.min(LAST_TIME));
+        self.ctl.resting.wake(time);
         self.ctl.turns += 1;
-        self.ctl.time = self.ctl.time.max(reading.min(LAST_TIME));
-        self.ctl.time
+        self.ctl.time = time;
+        time
     }
 
     /// The timers that have come are taken, and are due.
     fn take_timers(&mut self)
         ensures state { self.new.state ≡ with_plain (timers_taken self.old.state.settings self.old.state.plain) self.old.state }
         ensures untimed { self.new.untimed ≡ self.old.untimed }
+        ensures watched { self.new.watched ≡ self.old.watched }
     {
         while let Some(side) = self.ctl.waits.take_due(self.ctl.time) {
             self.ctl.raise(side, Why::Timer);
@@ -158,6 +166,7 @@ impl Relay {
             ≡ with_plain (timers_taken self.old.state.settings (turned_to result self.old.state.plain)) self.old.state }
         ensures rateless { self.old.untimed ≡ true → HasNoRates self.old.state }
         ensures untimed { self.new.untimed ≡ self.old.untimed }
+        ensures alike { AreLeftAlikeBeside self.new.watched result self.old.state }
     {
         let time = self.turn_to(reading);
         self.ctl.groups.refill(time);
@@ -252,34 +261,30 @@ impl Relay {
         self.any_is_expired()
     }
 
-    /// For how long a bucket of a live side that holds nothing has to wait for its next tick.
-    fn gain_wait(&self, side: SideId) -> Option<u64>
-        requires { side.link < self.now.state.plain.opened }
-        ensures { result ≡ wait_until self.now.state.plain.time (gain_of self.now.state side) }
+    /// When the first bucket of a live side that holds nothing gains again.
+    fn first_gain(&self) -> Option<u64>
+        ensures { result ≡ earliest (gains self.now.state (all_sides self.now.state.plain)) }
     {
-        if !self.ctl.sides.is_live(side) {
-            return None;
-        }
-        let moment = self.ctl.sides.gains_at(side, self.ctl.time)?;
-        Some(moment.saturating_sub(self.ctl.time))
-    }
-
-    /// The least such wait of all sides.
-    fn least_gain_wait(&self) -> Option<u64>
-        ensures { result ≡ wait_until self.now.state.plain.time (gains self.now.state (all_sides self.now.state.plain)) }
-    {
-        let mut least = None;
+        let mut first = self.ctl.resting.first();
         let mut from = 0;
         while let Some(link) = self.next_watched(from) {
             let near = SideId {
                 link,
                 side: Side::In,
             };
-            let wait = earlier(self.gain_wait(near), self.gain_wait(near.peer()));
-            least = earlier(least, wait);
+            let gain = earlier(self.ctl.gains_at(near), self.ctl.gains_at(near.peer()));
+            first = earlier(first, gain);
             from = link + 1;
         }
-        least
+        first
+    }
+
+    /// For how long such a bucket has to wait.
+    fn gain_wait(&self) -> Option<u64>
+        ensures { result ≡ wait_until self.now.state.plain.time (gains self.now.state (all_sides self.now.state.plain)) }
+    {
+        let moment = self.first_gain()?;
+        Some(moment.saturating_sub(self.ctl.time))
     }
 
     /// For how long a suspended group with members has to wait for its next tick.
@@ -298,7 +303,7 @@ impl Relay {
             return self.timer_wait();
         }
         let timed = earlier(self.timer_wait(), self.least_wait());
-        let limited = earlier(timed, self.least_gain_wait());
+        let limited = earlier(timed, self.gain_wait());
         earlier(limited, self.group_wait())
     }
 

@@ -44,7 +44,7 @@ impl Relay {
             &mut ctl.spare_limits,
             &mut ctl.groups,
         )?;
-        ctl.watched.lengthen(ctl.sides.opened() as usize + 1)?;
+        ctl.resting.lengthen(ctl.sides.opened() as usize + 1)?;
         ctl.grouped.lengthen(ctl.sides.opened() as usize + 1)?;
         ctl.sides.reserve_link()
     }
@@ -65,7 +65,7 @@ impl Relay {
             side: Side::In,
         };
         ctl.asks = MOST_ASKS;
-        ctl.watched.insert(first.link as usize);
+        ctl.resting.watch(first.link as usize);
         ctl.grouped.insert(first.link as usize);
         ctl.sides
             .open(near, far, ctl.time, ctl.turns, &mut ctl.spare_limits);

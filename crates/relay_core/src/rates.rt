@@ -1,5 +1,5 @@
 // What limits and groups leave to sides, and what they lose as bytes are moved.
-ghost use Rattle.std.specs.Prelude.{◌≡◌, ℕ, ◌<◌, ◌≤◌, ◌+◌, ◌==◌, ◌&&◌, ◌||◌, if◌then◌else◌, length, IfSome};
+ghost use Rattle.std.specs.Prelude.{◌≡◌, ℕ, ◌<◌, ◌≤◌, ◌+◌, true, length, IfSome};
 ghost use Rattle.ev_types.specs.Sides.{number};
 ghost use Rattle.rate_group.specs.Steps.{share_in, spent, left};
 ghost use Rattle.relay_model.specs.Rooms.{at_most};
@@ -8,6 +8,7 @@ ghost use Rattle.relay_state.specs.Rooms.{allowance, share, within_rates};
 ghost use Rattle.relay_state.specs.State.{gauges_after};
 ghost use Rattle.relay_sides.specs.KeptLimits.{IsAllowed};
 ghost use Rattle.relay_core.specs.Fires.{SameFire};
+ghost use Rattle.resting_links.specs.RestingValue.{HasPlaces, Wakes};
 
 use crate::ctl::Ctl;
 use crate::watched::leaves_some;
@@ -15,6 +16,7 @@ use ev_types::SideId;
 use number_set::NumberSet;
 use rate_group::Groups;
 use relay_sides::Dir;
+use resting_links::RestingLinks;
 
 /// A number of bytes, or less where less is allowed.
 fn at_most(most: Option<u64>, count: usize) -> usize
@@ -37,38 +39,23 @@ fn spend_share(groups: &mut Groups, side: u64, dir: Dir, count: u64)
 }
 
 /// A link is watched, where that is told.
-fn watch_where(watched: &mut NumberSet, link: u32, told: bool)
-    requires { link < watched.old.len }
-    ensures len { watched.new.len ≡ watched.old.len }
-    ensures members { (n : ℕ) → watched.new.has n ≡ (if n == link then told || watched.old.has link else watched.old.has n) }
+fn watch_where(resting: &mut RestingLinks, link: u32, told: bool)
+    requires { HasPlaces (link + 1) resting.old }
+    ensures more { Wakes resting.old resting.new }
+    ensures there { told ≡ true → resting.new.watched.has link ≡ true }
 {
     if told {
-        watched.insert(link as usize);
+        resting.watch(link as usize);
     }
 }
 
 /// All links of another set are watched, where that is told.
-fn watch_all_where(watched: &mut NumberSet, more: &NumberSet, told: bool)
-    ensures len { watched.new.len ≡ watched.old.len }
-    ensures members { (n : ℕ) → n < watched.old.len → watched.new.has n ≡ ((told && more.now.has n) || watched.old.has n) }
+fn watch_all_where(resting: &mut RestingLinks, more: &NumberSet, told: bool)
+    ensures more { Wakes resting.old resting.new }
+    ensures all { told ≡ true → (n : ℕ) → HasPlaces (n + 1) resting.old → more.now.has n ≡ true → resting.new.watched.has n ≡ true }
 {
     if told {
-        watch_all(watched, more);
-    }
-}
-
-/// All links of another set are watched that have a place.
-fn watch_all(watched: &mut NumberSet, more: &NumberSet)
-    ensures len { watched.new.len ≡ watched.old.len }
-    ensures members { (n : ℕ) → n < watched.old.len → watched.new.has n ≡ (more.now.has n || watched.old.has n) }
-{
-    let mut from = 0;
-    while let Some(link) = more.next(from) {
-        if link >= watched.len() {
-            return;
-        }
-        watched.insert(link);
-        from = link + 1;
+        resting.watch_all(more);
     }
 }
 
@@ -113,10 +100,10 @@ impl Ctl {
         ensures reads { self.new.spare_reads ≡ self.old.spare_reads }
     {
         let limited = self.sides.allowance(side, dir, self.time).is_some();
-        watch_where(&mut self.watched, side.link, limited);
+        watch_where(&mut self.resting, side.link, limited);
         self.sides.spend(side, dir, count as u64, self.time);
         spend_share(&mut self.groups, side.number() as u64, dir, count as u64);
         let free = leaves_some(self.groups.share(side.number() as u64, dir));
-        watch_all_where(&mut self.watched, &self.grouped, !free);
+        watch_all_where(&mut self.resting, &self.grouped, !free);
     }
 }

@@ -14,6 +14,7 @@ use number_set::NumberSet;
 use rate_group::Groups;
 use relay_sides::{Sides, SpareLimits};
 use relay_waits::Waits;
+use resting_links::RestingLinks;
 use std::alloc::Global;
 use std::marker::Model;
 
@@ -29,7 +30,12 @@ pub struct Relay {
 impl Model for Relay {
     ghost use Rattle.relay_core.specs.RelayValue.{RelayValue};
 
+    ghost use Rattle.std.specs.Coded.{codes};
+    ghost use Rattle.number_set.specs.Code.{number_set_code};
+
     ghost Value = { RelayValue };
+
+    ghost coded = { Prim.hlevel (codes, number_set_code) };
 
     ghost view = { λ r. r.ctl };
 }
@@ -91,7 +97,7 @@ impl Relay {
             asks: MOST_ASKS,
             stopped: false,
             log: Vec::new(alloc),
-            watched: NumberSet::new(alloc),
+            resting: RestingLinks::new(alloc),
             grouped: NumberSet::new(alloc),
         };
         Ok(Relay { ctl })

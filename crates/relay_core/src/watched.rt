@@ -1,9 +1,7 @@
-// The links that are watched as time goes on: those of sides with a timeout or an empty bucket, of members of a suspended group, and some
-// at which something changed since they were looked at.
+// The links that are watched as time goes on: those of sides with a timeout, of members of a suspended group, and some at which something
+// changed since they were looked at. A side with an empty bucket rests until the next tick of its limit.
 ghost use Rattle.std.specs.Prelude.{◌≡◌, ◌+◌, ◌^◌, ◌<◌, ◌≤◌, true, false, MatchOption};
-ghost use Rattle.relay_model.specs.Plain.{is_live};
-ghost use Rattle.relay_state.specs.Rooms.{allowance};
-ghost use Rattle.relay_core.specs.Timeless.{leaves_some, is_halted, IsStillSide, AreTimeless, AreTimelessBeside};
+ghost use Rattle.relay_core.specs.Timeless.{leaves_some, side_gains, is_halted, AreOut, IsStillSide, AreTimeless, AreTimelessBeside};
 
 use crate::ctl::Ctl;
 use crate::relay::Relay;
@@ -22,22 +20,24 @@ pub(crate) fn leaves_some(most: Option<u64>) -> bool
 }
 
 impl Relay {
-    /// The links that are watched. A side of every other link waits for no moment: time changes nothing at it, and a poll doesn't wake up
-    /// for it. Constant; takes no memory.
+    /// The links that are watched. Time changes nothing at a side of every other link, but what its own limit leaves it; a link at which
+    /// that may have changed is watched as a turn begins. Constant; takes no memory.
     ///
     /// Own.
     pub fn watched(&self) -> &NumberSet
-        ensures { AreTimelessBeside result.now self.now.state }
+        ensures set { result.now ≡ self.now.watched }
+        ensures beside { AreTimelessBeside result.now self.now.state }
     {
-        &self.ctl.watched
+        self.ctl.resting.watched()
     }
 
     /// The first watched link from a number on.
     pub(crate) fn next_watched(&self, from: u32) -> Option<u32>
-        ensures { MatchOption result (AreTimeless self.now.state from self.now.state.plain.opened)
+        ensures links { MatchOption result (AreTimeless self.now.state from self.now.state.plain.opened)
             (λ link. (from ≤ link) × (link < self.now.state.plain.opened) × (link + 1 < 2 ^ 32) × AreTimeless self.now.state from link) }
+        ensures out { MatchOption result (AreOut self.now.watched from self.now.state.plain.opened) (λ link. AreOut self.now.watched from link) }
     {
-        let link = self.ctl.watched.next(from as usize)?;
+        let link = self.ctl.resting.watched().next(from as usize)?;
         if link < self.ctl.sides.opened() as usize {
             Some(link as u32)
         } else {
@@ -45,12 +45,12 @@ impl Relay {
         }
     }
 
-    /// The links are watched no more whose sides wait for no moment. Takes no memory; linear in the links that are watched, and it looks at
-    /// a word for each 64 links.
+    /// The links are watched no more whose sides wait for no moment, or for the next tick of a limit alone. Takes no memory; linear in the
+    /// links that are watched, and logarithmic in all links for each such tick; it looks at a word for each 64 links.
     ///
     /// Own.
     pub fn forget_timeless(&mut self)
-        ensures { self.new ≡ self.old }
+        ensures { self.new ≡ record self.old { watched = self.new.watched } }
     {
         let mut from = 0;
         while let Some(link) = self.next_watched(from) {
@@ -59,10 +59,10 @@ impl Relay {
         }
     }
 
-    /// A link is watched no more where its sides wait for no moment.
+    /// A link is watched no more where its sides wait for no moment, or for the next tick of a limit alone.
     fn forget_where_timeless(&mut self, link: u32)
         requires { link < self.old.state.plain.opened }
-        ensures { self.new ≡ self.old }
+        ensures { self.new ≡ record self.old { watched = self.new.watched } }
     {
         let near = SideId {
             link,
@@ -70,13 +70,16 @@ impl Relay {
         };
         self.ctl.forget_members(near);
         if self.ctl.is_timeless(near) && self.ctl.is_timeless(near.peer()) {
-            self.ctl.watched.remove(link as usize);
+            let gain = self.ctl.gains_at(near);
+            let far_gain = self.ctl.gains_at(near.peer());
+            self.ctl.resting.rest(link as usize, gain, far_gain);
         }
     }
 }
 
 impl Ctl {
-    ghost use Rattle.std.specs.Prelude.{◌&&◌};
+    ghost use Rattle.std.specs.Prelude.{◌&&◌, option_to_list};
+    ghost use Rattle.relay_state.specs.State.{gauge_at};
     ghost use Rattle.relay_model.specs.Plain.{side_at};
     ghost use Rattle.relay_model.specs.Moments.{is_timed};
     ghost use Rattle.std.specs.Prelude.{None};
@@ -100,24 +103,26 @@ impl Ctl {
         flags.live && flags.expired
     }
 
-    /// Whether the limit of a side leaves it something in a direction, if it is live.
-    fn may_move(&self, side: SideId, dir: Dir) -> bool
+    /// When a bucket of a live side that holds nothing gains again.
+    pub(crate) fn gains_at(&self, side: SideId) -> Option<u64>
         requires { side.link < self.now.state.plain.opened }
-        ensures { result ≡ true → is_live self.now.state.plain side ≡ true → leaves_some (allowance self.now.state side dir) ≡ true }
+        ensures { option_to_list result ≡ side_gains self.now.state.plain.time (side_at self.now.state.plain side) (gauge_at self.now.state side) }
     {
-        !self.sides.is_live(side) || leaves_some(self.sides.allowance(side, dir, self.time))
+        if !self.sides.is_live(side) {
+            return None;
+        }
+        self.sides.gains_at(side, self.time)
     }
 
-    /// Whether the side waits for no moment.
+    /// Whether the side has no timeout, if it is live, has not expired, and is left something by its group.
     fn is_timeless(&self, side: SideId) -> bool
         requires { side.link < self.now.state.plain.opened }
-        ensures { result ≡ true → IsStillSide self.now.state side }
+        ensures still { result ≡ true → IsStillSide self.now.state side }
+        ensures unhalted { result ≡ true → is_halted (number side) self.now.state.groups ≡ false }
     {
         !self.is_timed(side, Dir::Read)
             && !self.is_timed(side, Dir::Write)
             && !self.is_expired(side)
-            && self.may_move(side, Dir::Read)
-            && self.may_move(side, Dir::Write)
             && self.has_share(side)
     }
 

@@ -11,7 +11,7 @@ use Rattle.relay_state.specs.State.{State}
 use Rattle.relay_state.specs.Counting.{is_open}
 use Rattle.relay_state.specs.Closing.{in_side, out_side}
 use Rattle.relay_drive.specs.declared.agenda.Agenda.{Agenda}
-use Rattle.relay_drive.specs.Links.{SameLink, WantsFreely, HasPairs, IsStill, IsSettled}
+use Rattle.relay_drive.specs.Links.{SameLink, WantsFreely, HasPairs, IsStill, IsSettled, at_time}
 use Rattle.relay_drive.specs.Agenda.{MayBeNamed, MayBeNamedRight, HoldsBeside, IsGone, IsKept, TouchedBut}
 use Rattle.relay_drive.specs.Agenda.{TouchedEach, IsCovered, ClosingNoted}
 use Rattle.relay_drive.specs.Agenda.{IsUntold, SameBesideWants, WouldSayOf, KeepsNames, TellsNames}
@@ -143,15 +143,28 @@ module _ (set : NumberSetValue) (l l' : Agenda) (s s' : State) (opened : s'.plai
     gone = beside-each IsGone l.maybe_open l'.maybe_open t.maybe_open (λ n lt out p. gone-same n s s' (same n lt out) p) h.gone;
   }
 
-  -- where nothing keeps the others from what they would want, the table is right of them
-  pub names-each : ((n : ℕ) → n < s'.plain.opened → set.has n ≡ false → SameLink n s s' × WantsFreely s' n) → TellsNames l s l' s'
+  -- where no group keeps the others from what they would want, and they would want the same, the table is right of them
+  pub names-each : ((n : ℕ) → n < s'.plain.opened → set.has n ≡ false →
+      ((table : WantsValue) → MayBeNamedRight table s n → MayBeNamedRight table s' n) × WantsFreely s' n) → TellsNames l s l' s'
   names-each same = λ table h. record {
     links = omega (arith, opened, h.links);
     named = λ n lt out.
         let both = t.to_name n lt out in
         let here = same n lt both.0 in
-        (named-same table n s s' here.0 (h.named n (subst (λ m. n < m) opened lt) both.1), here.1);
+        (here.0 table (h.named n (subst (λ m. n < m) opened lt) both.1), here.1);
   }
+
+-- what was kept is kept as time goes on
+pub kept-later : (l : Agenda) (ms : ℕ) (s : State) → IsKept l s → IsKept l (at_time ms s)
+kept-later l ms s h = record {
+  pass_covers = h.pass_covers;
+  close_covers = h.close_covers;
+  want_covers = h.want_covers;
+  live_covers = h.live_covers;
+  still = h.still;
+  settled = h.settled;
+  gone = h.gone;
+}
 
 -- no link changed
 pub kept-same : (l : Agenda) (s s' : State) → s'.plain.opened ≡ s.plain.opened → ((j : ℕ) → SameLink j s s') → IsKept l s → IsKept l s'

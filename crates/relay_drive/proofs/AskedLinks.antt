@@ -30,7 +30,7 @@ use Rattle.relay_drive.specs.Asked.{link_changed, link_changed_by, IsAskedElsewh
 use Rattle.relay_drive.specs.Links.{SameLink, has_spent_count_from, has_spent_count}
 use Rattle.relay_drive.proofs.DispatchLemmas.{one-leaves, one-done}
 use Rattle.relay_drive.proofs.MeantFolds.{Each_is}
-use Rattle.relay_drive.proofs.OtherLinks.{same_link, same_link-then, same_link-is, by_parts, by_gauges, by_groups, parts-side}
+use Rattle.relay_drive.proofs.OtherLinks.{same_link, same_link-then, same_link-is, by_parts, by_gauge, by_groups, parts-side}
 use Rattle.relay_drive.proofs.OtherLinks.{freed-other, same-waits}
 use Rattle.relay_drive.proofs.OtherLinks.{raise_read-other, raise_write-other, by_leaving}
 
@@ -48,7 +48,7 @@ asked-other k (act.Marks e d low high) s h = by_parts k s _ (parts-side k e _ s.
 asked-other k (act.Timeouts e r w) s h = by_parts k s _ (parts-side k e _ s.plain (apart k e.link h))
 asked-other k (act.Rate e cfg) s h =
     let p : Plain = change_side e (λ x. record x { limit = limit_now s e x.limit cfg }) s.plain in
-    same_link-then k (by_parts k s p (parts-side k e _ s.plain (apart k e.link h))) (by_gauges k (with_plain p s) _)
+    same_link-then k (by_parts k s p (parts-side k e _ s.plain (apart k e.link h))) (by_gauge k (with_plain p s) e _ (apart k e.link h))
 asked-other k (act.Join e n) s h =
     let p : Plain = change_side e (λ x. record x { group = Some n }) s.plain in
     same_link-then k (by_groups k s (joined n (number e) s.groups))
@@ -58,8 +58,8 @@ asked-other k (act.Leave e) s h =
     same_link-then k (by_leaving k s e) (by_parts k (without_group e s) p (parts-side k e _ s.plain (apart k e.link h)))
 asked-other k (act.Trigger e dir.Read) s h = raise_read-other k s e
 asked-other k (act.Trigger e dir.Write) s h = raise_write-other k s e
-asked-other k (act.Timer e delay) s h = same-waits k s _ refl refl
-asked-other k (act.Cancel e) s h = same-waits k s _ refl refl
+asked-other k (act.Timer e delay) s h = same-waits k s _ refl refl refl
+asked-other k (act.Cancel e) s h = same-waits k s _ refl refl refl
 asked-other k (act.Incref e) s h = by_parts k s _ (parts-side k e _ s.plain (apart k e.link h))
 asked-other k (act.Decref e) s h = by_parts k s _ (parts-side k e _ s.plain (apart k e.link h))
 asked-other k act.Stop s h = same_link k s
@@ -125,17 +125,21 @@ asked-elsewhere k me xs s new a h all = events-elsewhere k me xs s new a h (each
 pub left-other : (k : ℕ) (rs : List Reason) (s : State) → SameLink k s (left_to_fire rs s)
 left-other k rs s = record {
   settings = refl;
+  time = refl;
   side = λ e h. refl;
   flow = λ e h. refl;
   lane = λ e h. refl;
+  gauge = λ e h. refl;
 }
 
 pub dispatching-other : (k : ℕ) (s : State) → SameLink k s (dispatching s)
 dispatching-other k s = record {
   settings = refl;
+  time = refl;
   side = λ e h. refl;
   flow = λ e h. refl;
   lane = λ e h. refl;
+  gauge = λ e h. refl;
 }
 
 fire-each : (k : ℕ) {stopped : Bool} {s new : State} {a : Trace} → Fires stopped s a new → Each_is (IsAskedElsewhere k) a → SameLink k s new

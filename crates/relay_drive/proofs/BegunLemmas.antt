@@ -23,7 +23,9 @@ use Rattle.relay_model.specs.Turn.{turned_to}
 use Rattle.relay_state.specs.State.{State, no_lane, with_plain}
 use Rattle.relay_state.specs.Rooms.{wants}
 use Rattle.relay_state.specs.Time.{timed, side_timed, begun}
-use Rattle.relay_drive.specs.Links.{SameLink, IsTimelessLink}
+use Rattle.relay_state.specs.Running.{no_gauge}
+use Rattle.relay_steps.proofs.FrameLemmas.{frame-begun}
+use Rattle.relay_drive.specs.Links.{SameLink, IsTimelessLink, at_time}
 
 -- One side
 
@@ -53,12 +55,18 @@ record Rest (s new : State) : Type 0 where
   settings : new.settings ≡ s.settings
   flows : new.plain.flows ≡ s.plain.flows
   lanes : new.lanes ≡ s.lanes
+  gauges : new.gauges ≡ s.gauges
 
 rest-same : (s : State) → Rest s s
-rest-same s = record { settings = refl; flows = refl; lanes = refl }
+rest-same s = record { settings = refl; flows = refl; lanes = refl; gauges = refl }
 
 rest-then : {s m new : State} → Rest s m → Rest m new → Rest s new
-rest-then a b = record { settings = b.settings ∙ a.settings; flows = b.flows ∙ a.flows; lanes = b.lanes ∙ a.lanes }
+rest-then a b = record {
+  settings = b.settings ∙ a.settings;
+  flows = b.flows ∙ a.flows;
+  lanes = b.lanes ∙ a.lanes;
+  gauges = b.gauges ∙ a.gauges;
+}
 
 -- and of each side whether it has a timeout that runs, and the whole side where it has none
 record Leaves (z : SideId) (s new : State) : Type 0 where
@@ -97,7 +105,7 @@ leaves-timed z e s d = elim (eqb_tells (number z) (number e)) [
   | inl here ↦ at here.1 (is_timed (side_at s.plain e) d) refl
   | inr other ↦ by (not (is_timed (side_at s.plain e) d)) (not (wants s e d)) (has_run_out (side_at s.plain e) d s.plain.time)
       (λ x. record {
-        rest = record { settings = refl; flows = refl; lanes = refl };
+        rest = record { settings = refl; flows = refl; lanes = refl; gauges = refl };
         told = λ v. ap (λ y. is_timed y v) (get_or-set_other s.plain.sides (number e) (number z) x no_side other.1);
         side = λ a b. get_or-set_other s.plain.sides (number e) (number z) x no_side other.1;
       })
@@ -112,7 +120,7 @@ leaves-timed z e s d = elim (eqb_tells (number z) (number e)) [
     raised x h =
         let p : Plain = change_side e (λ y. x) s.plain in
         let same = raise-sides s.settings e (happened d timeout_flag) p in
-        leaves-then z h (leaves-sides z (put x) _ (record { settings = refl; flows = same.1; lanes = refl }) same.0)
+        leaves-then z h (leaves-sides z (put x) _ (record { settings = refl; flows = same.1; lanes = refl; gauges = refl }) same.0)
 
     by : (a b c : Bool) → ((x : PlainSide) → Leaves z s (put x)) → Leaves z s (if a then s
         else (if b then with_plain (change_side e (active_at s.plain.time d) s.plain) s
@@ -127,7 +135,7 @@ leaves-timed z e s d = elim (eqb_tells (number z) (number e)) [
     own : number z ≡ number e → is_timed (side_at s.plain e) d ≡ true → (x : PlainSide) →
         ((v : Dir) → is_timed x v ≡ is_timed (side_at s.plain e) v) → Leaves z s (put x)
     own here is x alike = record {
-      rest = record { settings = refl; flows = refl; lanes = refl };
+      rest = record { settings = refl; flows = refl; lanes = refl; gauges = refl };
       told = λ v. set-told (λ y. is_timed y v) s.plain.sides (number e) (number z) x (alike v);
       side = λ a b.
           let same : side_at s.plain z ≡ side_at s.plain e = ap (λ n. slice_index_or s.plain.sides n no_side) here in
@@ -187,18 +195,20 @@ leaves-begun z s ms =
     let at_time : State = with_plain (timers_taken s.settings p) refilled in
     let same = taken-rest s.settings (record p { timers = filter (λ x. nat_lt p.time x.deadline) p.timers })
     (filter (λ x. nat_le x.deadline p.time) p.timers) in
-    let first : Leaves z s at_time = leaves-sides z s at_time (record { settings = refl; flows = same.flows; lanes = refl }) same.sides in
+    let first : Leaves z s at_time = leaves-sides z s at_time (record { settings = refl; flows = same.flows; lanes = refl; gauges = refl }) same.sides in
     leaves-then z first
     (leaves-fold z side_timed (λ x e. leaves-fold z (timed e) (λ y d. leaves-timed z e y d) x both_ways) at_time (all_sides at_time.plain))
 
--- a link is as it was whose sides wait for no moment then
-pub begun-same : (k ms : ℕ) (s : State) → IsTimelessLink (begun s ms) k → SameLink k s (begun s ms)
+-- a link is as it was, but for the time, whose sides wait for no moment then
+pub begun-same : (k ms : ℕ) (s : State) → IsTimelessLink (begun s ms) k → SameLink k (at_time ms s) (begun s ms)
 begun-same k ms s h = record {
   settings = (leaves-begun (record { link = k; side = In }) s ms).rest.settings;
+  time = (frame-begun s ms).time;
   side = λ e here.
       let l = leaves-begun e s ms in
       let p = h e here in
       l.side (sym (l.told dir.Read) ∙ p.reads) (sym (l.told dir.Write) ∙ p.writes);
   flow = λ e here. ap (λ (xs : List Flow). slice_index_or xs (number e) no_flow) (leaves-begun e s ms).rest.flows;
   lane = λ e here. ap (λ xs. slice_index_or xs (number e) no_lane) (leaves-begun e s ms).rest.lanes;
+  gauge = λ e here. ap (λ xs. slice_index_or xs (number e) no_gauge) (leaves-begun e s ms).rest.gauges;
 }

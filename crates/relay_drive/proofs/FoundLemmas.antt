@@ -12,7 +12,9 @@ use Rattle.ev_types.specs.declared.entry.Entry.{Entry}
 use Rattle.ev_types.specs.declared.entry.Entry.TheVariants as entry
 use Rattle.relay_model.specs.Plain.{PlainSide, side_at}
 use Rattle.relay_model.specs.Close.{fault, freed_entry}
+use Rattle.relay_state.specs.Running.{held_at}
 use Rattle.relay_state.specs.State.{State}
+use Rattle.relay_state.specs.Rooms.{allowance}
 use Rattle.relay_state.specs.Passing.{passage_at, round_from}
 use Rattle.relay_state.specs.Closing.{in_side, out_side, closing_entry}
 use Rattle.relay_state.specs.Counting.{is_open}
@@ -41,16 +43,26 @@ passage-same k s new h e here =
     let lane = h.lane e here in
     cc
 
+-- their limits leave them the same
+left-same : {k : ℕ} {s new : State} → SameLink k s new → (e : SideId) → e.link ≡ k → (d : Dir) → allowance new e d ≡ allowance s e d
+left-same h e here d =
+    let own = h.side e here in
+    let gauge = h.gauge e here in
+    let time = h.time in
+    λ i. option_map (λ y. held_at y.cfg (gauge i) d (time i)) (own i).limit
+
 -- its sides would want the same
 pub wants-same : {k : ℕ} {s new : State} → SameLink k s new → (e : SideId) → e.link ≡ k → (d : Dir) → would_want new e d ≡ would_want s e d
 wants-same h e here dir.Read =
     let own = h.side e here in
     let far = h.side (peer e) here in
     let lane = h.lane e here in
+    let left = left-same h e here dir.Read in
     cc
 wants-same h e here dir.Write =
     let own = h.side e here in
     let lane = h.lane (peer e) here in
+    let left = left-same h e here dir.Write in
     cc
 
 -- a side of it lives as before

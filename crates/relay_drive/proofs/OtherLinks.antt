@@ -1,5 +1,5 @@
 -- What each step of a turn leaves of every other link than the one that it is about.
-use Rattle.std.specs.Prelude.{MatchBool, is_some, slice_index_or}
+use Rattle.std.specs.Prelude.{MatchBool, is_some, slice_index_or, slice_set}
 use Rattle.std.specs.List.{AllByRecursion}
 use Rattle.std.proofs.Common.{◌≡◌, ◌≢◌, ℕ, ◌*◌, ◌<◌, Bool, true, false, ◌&&◌, nat_le, nat_lt, if◌then◌else◌, List, [], ◌∷◌, ◌++◌, length}
 use Rattle.std.proofs.Common.{refl, sym, ◌∙◌, ap, subst, arith}
@@ -29,7 +29,7 @@ use Rattle.relay_model.specs.Moments.{active_at}
 use Rattle.relay_model.specs.Rooms.{is_connecting}
 use Rattle.relay_model.specs.Serve as model
 use Rattle.relay_model.proofs.PlainLemmas.{half-below}
-use Rattle.relay_state.specs.Running.{Gauge}
+use Rattle.relay_state.specs.Running.{Gauge, no_gauge}
 use Rattle.rate_group.specs.GroupValue.{GroupsValue}
 use Rattle.rate_group.specs.Steps.{left}
 use Rattle.relay_state.specs.State.{State, Lane, no_lane, lane_at, gauges_after, with_plain, with_lane, lane_got, lane_taken}
@@ -57,17 +57,21 @@ use Rattle.relay_drive.specs.Links.{SameLink, HasPairs}
 pub same_link : (k : ℕ) (s : State) → SameLink k s s
 same_link k s = record {
   settings = refl;
+  time = refl;
   side = λ e h. refl;
   flow = λ e h. refl;
   lane = λ e h. refl;
+  gauge = λ e h. refl;
 }
 
 pub same_link-then : (k : ℕ) {s mid new : State} → SameLink k s mid → SameLink k mid new → SameLink k s new
 same_link-then k a b = record {
   settings = b.settings ∙ a.settings;
+  time = b.time ∙ a.time;
   side = λ e h. b.side e h ∙ a.side e h;
   flow = λ e h. b.flow e h ∙ a.flow e h;
   lane = λ e h. b.lane e h ∙ a.lane e h;
+  gauge = λ e h. b.gauge e h ∙ a.gauge e h;
 }
 
 pub same_link-is : (k : ℕ) {s new : State} → new ≡ s → SameLink k s new
@@ -79,25 +83,28 @@ same_link-is k {s = s} h = subst (SameLink k s) (sym h) (same_link k s)
 numbers-apart : (k : ℕ) (e z : SideId) → k ≢ e.link → z.link ≡ k → number z ≢ number e
 numbers-apart k e z other here same = omega (arith, same, here, other, half-below e.side, half-below z.side)
 
--- the sides and directions of this link are as they were
+-- the sides and directions of this link are as they were, and the time
 pub record SameParts (k : ℕ) (p new : Plain) : Type 0 where
+  pub time : new.time ≡ p.time
   pub side : (e : SideId) → e.link ≡ k → side_at new e ≡ side_at p e
   pub flow : (e : SideId) → e.link ≡ k → flow_at new e ≡ flow_at p e
 
 pub parts-same : (k : ℕ) (p : Plain) → SameParts k p p
-parts-same k p = record { side = λ e h. refl; flow = λ e h. refl }
+parts-same k p = record { time = refl; side = λ e h. refl; flow = λ e h. refl }
 
 parts-then : (k : ℕ) {p mid new : Plain} → SameParts k p mid → SameParts k mid new → SameParts k p new
-parts-then k a b = record { side = λ e h. b.side e h ∙ a.side e h; flow = λ e h. b.flow e h ∙ a.flow e h }
+parts-then k a b = record { time = b.time ∙ a.time; side = λ e h. b.side e h ∙ a.side e h; flow = λ e h. b.flow e h ∙ a.flow e h }
 
 pub parts-side : (k : ℕ) (e : SideId) (x : PlainSide) (p : Plain) → k ≢ e.link → SameParts k p (put_side e x p)
 parts-side k e x p other = record {
+  time = refl;
   side = λ z h. get_or-set_other p.sides (number e) (number z) x no_side (numbers-apart k e z other h);
   flow = λ z h. refl;
 }
 
 parts-flow : (k : ℕ) (e : SideId) (x : Flow) (p : Plain) → k ≢ e.link → SameParts k p (put_flow e x p)
 parts-flow k e x p other = record {
+  time = refl;
   side = λ z h. refl;
   flow = λ z h. get_or-set_other p.flows (number e) (number z) x no_flow (numbers-apart k e z other h);
 }
@@ -106,39 +113,61 @@ parts-raise : (k : ℕ) (g : Settings) (e : SideId) (y : Why) {p new : Plain} �
 parts-raise k g e y {p = p} {new = new} h = go (has_hook g e && is_live new e)
   where
     go : (b : Bool) → SameParts k p (if b then record new { due = with_reason e y new.due } else new)
-    go true = record { side = h.side; flow = h.flow }
+    go true = record { time = h.time; side = h.side; flow = h.flow }
     go false = h
 
 pub by_parts : (k : ℕ) (s : State) (p : Plain) → SameParts k s.plain p → SameLink k s (with_plain p s)
 by_parts k s p h = record {
   settings = refl;
+  time = h.time;
   side = h.side;
   flow = h.flow;
   lane = λ e z. refl;
+  gauge = λ e z. refl;
 }
 
 pub by_lane : (k : ℕ) (s : State) (e : SideId) (l : Lane) → k ≢ e.link → SameLink k s (with_lane e l s)
 by_lane k s e l other = record {
   settings = refl;
+  time = refl;
   side = λ z h. refl;
   flow = λ z h. refl;
+  gauge = λ z h. refl;
   lane = λ z h. get_or-set_other s.lanes (number e) (number z) l no_lane (numbers-apart k e z other h);
 }
 
--- buckets belong to no link, nor do groups
-pub by_gauges : (k : ℕ) (s : State) (xs : List Gauge) → SameLink k s (record s { gauges = xs })
-by_gauges k s xs = record { settings = refl; side = λ z h. refl; flow = λ z h. refl; lane = λ z h. refl }
+-- the buckets of a side of another link
+pub by_gauge : (k : ℕ) (s : State) (e : SideId) (x : Gauge) → k ≢ e.link → SameLink k s (record s { gauges = slice_set s.gauges (number e) x })
+by_gauge k s e x other = record {
+  settings = refl;
+  time = refl;
+  side = λ z h. refl;
+  flow = λ z h. refl;
+  lane = λ z h. refl;
+  gauge = λ z h. get_or-set_other s.gauges (number e) (number z) x no_gauge (numbers-apart k e z other h);
+}
+
+-- groups belong to no link
 
 pub by_groups : (k : ℕ) (s : State) (x : GroupsValue) → SameLink k s (record s { groups = x })
-by_groups k s x = record { settings = refl; side = λ e h. refl; flow = λ e h. refl; lane = λ e h. refl }
+by_groups k s x = record {
+  settings = refl;
+  time = refl;
+  side = λ e h. refl;
+  flow = λ e h. refl;
+  lane = λ e h. refl;
+  gauge = λ e h. refl;
+}
 
 -- what is left to fire belongs to no link
 pub by_batch : (k : ℕ) (s : State) (e : SideId) → SameLink k s (without_batch e s)
 by_batch k s e = record {
   settings = refl;
+  time = refl;
   side = λ z h. refl;
   flow = λ z h. refl;
   lane = λ z h. refl;
+  gauge = λ z h. refl;
 }
 
 -- nor who is in a group: a side left its own
@@ -200,7 +229,7 @@ got-other k s e bytes other =
     let before : SameLink k s put = same_link-then k (by_parts k s p (parts-side k e _ s.plain other))
     (by_lane k (with_plain p s) e _ other) in
     let gauges = gauges_after e dir.Read (length bytes) s in
-    let gauged : SameLink k s (record put { gauges = gauges }) = same_link-then k before (by_gauges k put gauges) in
+    let gauged : SameLink k s (record put { gauges = gauges }) = same_link-then k before (by_gauge k put e _ other) in
     let got : SameLink k s (with_got s e bytes) = same_link-then k gauged (by_groups k (record put { gauges = gauges }) _) in
     same_link-then k got
     (same_link-then k (passage-other k (with_got s e bytes) e _ other) (raise_read-other k (read_run e (with_got s e bytes)) e))
@@ -221,7 +250,7 @@ took-other k s e n other =
     let put : State = with_lane (peer e) (lane_taken n (lane_at s (peer e))) (with_plain q s) in
     let before : SameLink k s put = same_link-then k (by_parts k s q both) (by_lane k (with_plain q s) (peer e) _ other) in
     let gauges = gauges_after e dir.Write n s in
-    let gauged : SameLink k s (record put { gauges = gauges }) = same_link-then k before (by_gauges k put gauges) in
+    let gauged : SameLink k s (record put { gauges = gauges }) = same_link-then k before (by_gauge k put e _ other) in
     let taken : SameLink k s (with_taken s e n) = same_link-then k gauged (by_groups k (record put { gauges = gauges }) _) in
     same_link-then k taken (raise_write-other k (with_taken s e n) e)
 
@@ -269,7 +298,7 @@ pub freed-other : (k : ℕ) (s : State) (e : SideId) → k ≢ e.link → SameLi
 freed-other k s e other =
     let r : State = without_group e (without_batch e s) in
     let p : Plain = plain.freed e s.plain in
-    let side : SameParts k s.plain p = record { side = (parts-side k e _ s.plain other).side; flow = λ z h. refl } in
+    let side : SameParts k s.plain p = record { time = refl; side = (parts-side k e _ s.plain other).side; flow = λ z h. refl } in
     let own : State = with_lane e (lane_left (lane_at s e)) (with_plain p r) in
     let first : SameLink k r own = same_link-then k (by_parts k r p side) (by_lane k (with_plain p r) e _ other) in
     same_link-then k (same_link-then k (by_batch k s e) (by_leaving k (without_batch e s) e))
@@ -319,15 +348,19 @@ opens-other k s new a h pairs below =
     let new : State = after_opened s h.0 in
     subst (SameLink k s) (sym h.1.state) (record {
       settings = refl;
+      time = refl;
+      gauge = λ e here. kept-place k n s.gauges _ no_gauge e pairs.gauges below here;
       side = λ e here. kept-place k n s.plain.sides _ no_side e pairs.sides below here;
       flow = λ e here. kept-place k n s.plain.flows _ no_flow e pairs.flows below here;
       lane = λ e here. kept-place k n s.lanes _ no_lane e pairs.lanes below here;
     })
 
 -- timers and due reasons belong to no link
-pub same-waits : (k : ℕ) (s : State) (p : Plain) → p.sides ≡ s.plain.sides → p.flows ≡ s.plain.flows → SameLink k s (with_plain p s)
-same-waits k s p sides flows =
+pub same-waits : (k : ℕ) (s : State) (p : Plain) → p.time ≡ s.plain.time → p.sides ≡ s.plain.sides → p.flows ≡ s.plain.flows →
+    SameLink k s (with_plain p s)
+same-waits k s p time sides flows =
     by_parts k s p (record {
+      time = time;
       side = λ e h. ap (λ xs. slice_index_or xs (number e) no_side) sides;
       flow = λ e h. ap (λ xs. slice_index_or xs (number e) no_flow) flows;
     })

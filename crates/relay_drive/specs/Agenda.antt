@@ -46,8 +46,8 @@ SaysOf t s e = (t.reads (number e) ≡ wants s e dir.Read) × (t.writes (number 
 abbrev pub WouldSayOf : WantsValue → State → SideId → Type 0
 WouldSayOf t s e = (t.reads (number e) ≡ would_want s e dir.Read) × (t.writes (number e) ≡ would_want s e dir.Write)
 
--- The table has this link, says what its sides would want, and no count of it has come far. While a turn goes on a limit or a group may
--- keep them from that.
+-- The table has this link, says what its sides would want, and no count of it has come far. While a turn goes on a group may keep them
+-- from that.
 abbrev pub MayBeNamedRight : WantsValue → State → ℕ → Type 0
 MayBeNamedRight t s k =
     (k < t.links) × WouldSayOf t s (in_side k) × WouldSayOf t s (out_side k) × LinkCountsAreFew s k
@@ -130,7 +130,7 @@ SameBesideWants old new = (new.to_pass ≡ old.to_pass) × (new.to_close ≡ old
 abbrev pub KeepsNames : Agenda → State → Agenda → State → Type 0
 KeepsNames old s new s' = (t : WantsValue) → MayBeNamed old t s → MayBeNamed new t s'
 
--- As a turn begins, what may be right is right, of every table: a link that a limit or a group may keep from what it would want is to be
--- looked at then.
+-- As a turn begins, what may be right is right, of every table: a link that a group may keep from what it would want is to be looked at
+-- then.
 abbrev pub TellsNames : Agenda → State → Agenda → State → Type 0
 TellsNames old s new s' = (t : WantsValue) → MayBeNamed old t s → IsNamed new t s'

@@ -6,25 +6,31 @@ use Rattle.token_bucket.specs.declared.limit.Dir.{Dir}
 use Rattle.token_bucket.specs.declared.limit.Dir.TheVariants as dir
 use Rattle.ev_types.specs.declared.side.SideId.{SideId}
 use Rattle.relay_model.specs.Plain.{side_at, flow_at}
-use Rattle.relay_model.specs.Rooms.{most_at_once, read_mark, may_read, may_write, is_connecting}
+use Rattle.relay_model.specs.Rooms.{at_most, most_at_once, read_mark, may_read, may_write, is_connecting}
 use Rattle.relay_core.specs.declared.close.Closing.{Closing}
 pub use Rattle.relay_state.specs.Spent.{has_spent_count_from, has_spent_count}
 pub use Rattle.relay_core.specs.Pairs.{HasPairs}
 use Rattle.relay_core.specs.Timeless.{IsTimelessSide}
 use Rattle.relay_core.specs.Steps as steps
 use Rattle.relay_core.specs.Steps.{steps_of}
-use Rattle.relay_state.specs.State.{State, lane_at}
-use Rattle.relay_state.specs.Rooms.{wants, input_length, waiting_for}
+use Rattle.relay_state.specs.State.{State, lane_at, gauge_at, with_plain}
+use Rattle.relay_state.specs.Rooms.{wants, allowance, input_length, waiting_for}
 use Rattle.relay_state.specs.Passing.{passage_at, round_from}
 use Rattle.relay_state.specs.Closing.{in_side, out_side, closing_entry}
 
--- What belongs to this link is as it was, and the settings. What limits and groups leave its sides to move is not kept: time changes that,
--- and what is done at another link.
+-- What belongs to this link is as it was, the settings, and the time. What groups leave its sides to move is not kept: what is done at
+-- another link changes that.
 pub record SameLink (k : ℕ) (s new : State) : Type 0 where
   pub settings : new.settings ≡ s.settings
+  pub time : new.plain.time ≡ s.plain.time
   pub side : (e : SideId) → e.link ≡ k → side_at new.plain e ≡ side_at s.plain e
   pub flow : (e : SideId) → e.link ≡ k → flow_at new.plain e ≡ flow_at s.plain e
   pub lane : (e : SideId) → e.link ≡ k → lane_at new e ≡ lane_at s e
+  pub gauge : (e : SideId) → e.link ≡ k → gauge_at new e ≡ gauge_at s e
+
+-- the state at another time
+abbrev pub at_time : ℕ → State → State
+at_time time s = with_plain (record (s.plain) { time = time }) s
 
 -- a round of the direction that begins at this side changes nothing
 abbrev pub IsStillFrom : State → SideId → Type 0
@@ -42,18 +48,18 @@ IsUncalled s step = is_some (closing_entry s (steps.close_step step)) ≡ false
 abbrev pub IsSettled : State → ℕ → Type 0
 IsSettled s k = All (IsUncalled s) (steps_of k)
 
--- What a side would want if neither its limit nor its group kept it from moving bytes.
+-- What a side would want if its group didn't keep it from moving bytes.
 abbrev pub would_want : State → SideId → Dir → Bool
 would_want s e dir.Read =
-    nat_le 1 (if may_read s.plain e then min most_at_once (read_mark s.plain e - input_length s e) else 0)
+    nat_le 1 (if may_read s.plain e then at_most (allowance s e dir.Read) (min most_at_once (read_mark s.plain e - input_length s e)) else 0)
 would_want s e dir.Write =
-    nat_le 1 (if may_write s.plain e then min most_at_once (length (waiting_for s e)) else 0)
+    nat_le 1 (if may_write s.plain e then at_most (allowance s e dir.Write) (min most_at_once (length (waiting_for s e))) else 0)
     || (is_connecting s.plain e && not (side_at s.plain e).failed)
 
--- nothing keeps the sides of this link from what they would want
+-- no group keeps the sides of this link from what they would want
 abbrev pub WantsFreely : State → ℕ → Type 0
 WantsFreely s k = (e : SideId) → e.link ≡ k → (d : Dir) → wants s e d ≡ would_want s e d
 
--- the sides of this link wait for no moment
+-- time changes nothing at the sides of this link, but what their own limits leave them
 abbrev pub IsTimelessLink : State → ℕ → Type 0
 IsTimelessLink s k = (e : SideId) → e.link ≡ k → IsTimelessSide s e

@@ -9,9 +9,9 @@ use number_set::NumberSet;
 use std::alloc::Global;
 
 /// The links at which passing and closing may have something to do, those that may have a live side, and those of which the table of wants
-/// may not be right. A link that isn't in a set was looked at, and nothing changed there since, but for what its limits and groups leave
-/// its sides to move: the links of sides that these may keep from moving bytes are watched by the relay, and are in all sets as a turn
-/// begins.
+/// may not be right. A link that isn't in a set was looked at, and nothing changed there since, but for what groups leave its sides to
+/// move: the links of sides that these may keep from moving bytes are watched by the relay, and are in all sets as a turn begins, and so
+/// are those whose limits may leave more than before.
 #[derive(Drop)]
 pub(crate) struct Agenda {
     pub(crate) to_pass: NumberSet,

@@ -6,7 +6,8 @@ ghost use Rattle.relay_drive.specs.declared.fault.TurnEnd.TheVariants.{Went};
 ghost use Rattle.relay_drive.specs.Steps.{Nothing};
 ghost use Rattle.relay_drive.specs.Phases.{TicksOnce, ServedThen, CutStart, PassesAndCloses, CutFinish};
 ghost use Rattle.relay_drive.specs.Known.{Point};
-ghost use Rattle.relay_drive.specs.Links.{SameLink, IsTimelessLink};
+ghost use Rattle.relay_core.specs.Timeless.{AreLeftAlikeBeside};
+ghost use Rattle.relay_drive.specs.Links.{SameLink, IsTimelessLink, at_time};
 ghost use Rattle.relay_drive.specs.Agenda.{HoldsBeside, LinkCountsAreFew, CountsAreFew, IsKept, MayBeNamed, KeepsNames, TellsNames};
 ghost use Rattle.relay_drive.specs.DriveView.{IsReady};
 ghost use Rattle.relay_drive.specs.Seats.{telling, AreSeated};
@@ -41,7 +42,9 @@ fn read_clock<P: Port, S: Scribe>(
         (λ _. Moves P.Port S.Scribe Point.Between Point.Between false Nothing
         (run.old, port.old, scribe.old) (run.new, port.new, scribe.new)) }
     ensures opened { OnOk result (run.new.relay.state.plain.opened ≡ run.old.relay.state.plain.opened) }
-    ensures still { OnOk result ((k : ℕ) → IsTimelessLink run.new.relay.state k → SameLink k run.old.relay.state run.new.relay.state) }
+    ensures still { OnOk result ((k : ℕ) → IsTimelessLink run.new.relay.state k →
+        SameLink k (at_time run.new.relay.state.plain.time run.old.relay.state) run.new.relay.state) }
+    ensures alike { OnOk result (AreLeftAlikeBeside run.new.relay.watched run.new.relay.state.plain.time run.old.relay.state) }
     ensures few { OnOk result (CountsAreFew run.old.relay.state → CountsAreFew run.new.relay.state) }
     ensures cause { OnlyForMemory result }
 {
@@ -51,8 +54,8 @@ fn read_clock<P: Port, S: Scribe>(
     Ok(())
 }
 
-/// Reads the port's clock once. Every link is to be looked at then at which a side waits for a moment: for its timeout, or since its limit
-/// or its group may keep it from moving bytes.
+/// Reads the port's clock once. Every link is to be looked at then at which a side has a timeout, its group may keep it from moving bytes, or
+/// what its limit leaves it may have changed.
 fn clock<P: Port, S: Scribe>(
     run: &mut Run,
     agenda: &mut Agenda,

@@ -41,7 +41,7 @@ loop-link-preserved c =
       named = named-next c.loop-link.wants c.name_link.new.wants c.loop-link.agenda.to_name c.put.new.self s k c.contains-again.result
           (omega (arith, lt, inv.links))
           c.name_link.ensures c.put.ensures.members (c.requires.few k lt)
-          (λ out. wants_freely s k (λ e here. c.watched.ensures e (omega (arith, here, lt))
+          (λ out. wants_freely s k (λ e here. c.watched.ensures.beside e (omega (arith, here, lt))
           (subst (λ n. c.watched.result.now.has n ≡ false) (sym here) (sym c.contains-again.ensures ∙ out)))) inv.named;
       same = (inv.same.0, inv.same.1, inv.same.2, c.put.ensures.len ∙ inv.same.3);
       within = omega (arith, lt);

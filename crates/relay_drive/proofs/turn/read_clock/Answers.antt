@@ -4,7 +4,8 @@ use Rattle.ev_types.specs.Trace.{Trace}
 use Rattle.relay_state.specs.State.{State}
 use Rattle.relay_state.specs.Time.{begun}
 use Rattle.relay_steps.proofs.FrameLemmas.{frame-begun}
-use Rattle.relay_drive.specs.Links.{SameLink, IsTimelessLink}
+use Rattle.relay_core.specs.Timeless.{AreLeftAlikeBeside}
+use Rattle.relay_drive.specs.Links.{SameLink, IsTimelessLink, at_time}
 use Rattle.relay_drive.specs.Agenda.{CountsAreFew}
 use Rattle.relay_drive.proofs.BegunLemmas.{begun-same}
 use Rattle.relay_drive.proofs.FewLemmas.{few-begun}
@@ -55,8 +56,16 @@ pub returns-clause-still : goal.returns-clause-still
 returns-clause-still g c =
     let s = c.args.run.now.relay.state in
     let ms = c.begin-ms.result in
-    λ k h. subst (SameLink k s) (sym c.begin-ms.ensures.state)
-    (begun-same k ms s (subst (λ z. IsTimelessLink z k) c.begin-ms.ensures.state h))
+    λ k h. subst (λ (z : State). SameLink k (at_time z.plain.time s) z) (sym c.begin-ms.ensures.state)
+    (subst (λ t. SameLink k (at_time t s) (begun s ms)) (sym (frame-begun s ms).time)
+    (begun-same k ms s (subst (λ z. IsTimelessLink z k) c.begin-ms.ensures.state h)))
+
+pub returns-clause-alike : goal.returns-clause-alike
+returns-clause-alike g c =
+    let s = c.args.run.now.relay.state in
+    let ms = c.begin-ms.result in
+    subst (λ t. AreLeftAlikeBeside c.begin-ms.new.self.watched t s)
+    (sym (ap (λ (z : State). z.plain.time) c.begin-ms.ensures.state ∙ (frame-begun s ms).time)) c.begin-ms.ensures.alike
 
 pub returns-clause-few : goal.returns-clause-few
 returns-clause-few g c = λ few. subst CountsAreFew (sym c.begin-ms.ensures.state)

@@ -22,9 +22,9 @@ invariant_of-self c =
           (λ p. p)
           (ap (λ (z : Links). z.sides) c.free.ensures) (ap (λ (z : Links). z.gauges) c.free.ensures);
       grouped = left_sound r.given r.untimed r.groups.value c.leave.new.groups.value (number e) h.grouped c.leave.ensures;
-      watching = watching-more r.watched r.time k r.groups.value h.watching c.insert.new.self c.free.new.self.links
+      watching = watching-more r.resting r.time k r.groups.value h.watching c.watch.new.self c.free.new.self.links
           c.leave.new.groups.value e
-          (record (links.side_at k e) { live = false; group = None }) (links.gauge_at k e) c.insert.ensures.members c.insert.ensures.len
+          (record (links.side_at k e) { live = false; group = None }) (links.gauge_at k e) c.watch.ensures.more c.watch.ensures.there
           (ap (λ (z : Links). z.sides) c.free.ensures)
           (ap (λ (z : Links). z.gauges) c.free.ensures ∙ sym (set-get_or k.gauges (number e) no_gauge))
           (ap (λ (z : Links). z.opened) c.free.ensures)

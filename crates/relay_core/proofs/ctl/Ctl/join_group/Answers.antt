@@ -23,15 +23,15 @@ invariant_of-self-2 c =
       timed = still_sound r.settings r.time r.untimed k c.set_group.new.self.links e (λ x. record x { group = Some c.args.group }) h.timed
           (λ p. p) (ap (λ (z : Links). z.sides) c.set_group.ensures) (ap (λ (z : Links). z.gauges) c.set_group.ensures);
       grouped = search rules;
-      watching = watching-more r.watched r.time k r.groups.value h.watching c.insert.new.self c.set_group.new.self.links
-          c.change.new.self.value e y (links.gauge_at k e) c.insert.ensures.members c.insert.ensures.len
+      watching = watching-more r.resting r.time k r.groups.value h.watching c.watch.new.self c.set_group.new.self.links
+          c.change.new.self.value e y (links.gauge_at k e) c.watch.ensures.more c.watch.ensures.there
           (ap (λ (z : Links). z.sides) c.set_group.ensures)
           (ap (λ (z : Links). z.gauges) c.set_group.ensures ∙ sym (set-get_or k.gauges (number e) no_gauge))
           (ap (λ (z : Links). z.opened) c.set_group.ensures)
           (λ z other was. ap (is_halted (number z)) is ∙ halted-joined (Some c.args.group) e (number z) r.groups.value
           (numbers-differ e z other) was);
-      grouping = grouping-joined r.grouped c.insert-2.new.self c.set_group.new.self.links.opened e c.args.group r.groups.value
-          c.change.new.self.value is c.insert-2.ensures.members c.insert-2.ensures.len
+      grouping = grouping-joined r.grouped c.insert.new.self c.set_group.new.self.links.opened e c.args.group r.groups.value
+          c.change.new.self.value is c.insert.ensures.members c.insert.ensures.len
           (grouping-at r.grouped k.opened c.set_group.new.self.links.opened r.groups.value.members
           (ap (λ (z : Links). z.opened) c.set_group.ensures) h.grouping);
       time = h.time;

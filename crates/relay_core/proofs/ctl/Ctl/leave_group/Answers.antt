@@ -21,9 +21,9 @@ invariant_of-self c =
       timed = still_sound r.settings r.time r.untimed k c.set_group.new.self.links e (λ x. record x { group = None }) h.timed (λ p. p)
           (ap (λ (z : Links). z.sides) c.set_group.ensures) (ap (λ (z : Links). z.gauges) c.set_group.ensures);
       grouped = left_sound r.given r.untimed r.groups.value c.leave.new.groups.value (number e) h.grouped c.leave.ensures;
-      watching = watching-more r.watched r.time k r.groups.value h.watching c.insert.new.self c.set_group.new.self.links
-          c.leave.new.groups.value e (record (links.side_at k e) { group = None }) (links.gauge_at k e) c.insert.ensures.members
-          c.insert.ensures.len (ap (λ (z : Links). z.sides) c.set_group.ensures)
+      watching = watching-more r.resting r.time k r.groups.value h.watching c.watch.new.self c.set_group.new.self.links
+          c.leave.new.groups.value e (record (links.side_at k e) { group = None }) (links.gauge_at k e) c.watch.ensures.more
+          c.watch.ensures.there (ap (λ (z : Links). z.sides) c.set_group.ensures)
           (ap (λ (z : Links). z.gauges) c.set_group.ensures ∙ sym (set-get_or k.gauges (number e) no_gauge))
           (ap (λ (z : Links). z.opened) c.set_group.ensures)
           (λ z other was. ap (is_halted (number z)) c.leave.ensures ∙ halted-left (number e) (number z) r.groups.value

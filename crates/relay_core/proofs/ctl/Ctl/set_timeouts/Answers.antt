@@ -16,8 +16,8 @@ invariant_of-self c =
     record {
       timed = search rules;
       grouped = search rules;
-      watching = watching-more r.watched r.time k r.groups.value h.watching c.insert.new.self c.set_timeouts.new.self.links
-          r.groups.value e _ (links.gauge_at k e) c.insert.ensures.members c.insert.ensures.len
+      watching = watching-more r.resting r.time k r.groups.value h.watching c.watch.new.self c.set_timeouts.new.self.links
+          r.groups.value e _ (links.gauge_at k e) c.watch.ensures.more c.watch.ensures.there
           (ap (λ (z : Links). z.sides) c.set_timeouts.ensures)
           (ap (λ (z : Links). z.gauges) c.set_timeouts.ensures ∙ sym (set-get_or k.gauges (number e) no_gauge))
           (ap (λ (z : Links). z.opened) c.set_timeouts.ensures) (λ z other none. none);

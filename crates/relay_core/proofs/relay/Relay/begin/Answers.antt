@@ -1,4 +1,7 @@
-use Rattle.std.proofs.Common.{subst, sym}
+use Rattle.std.proofs.Common.{subst, sym, ◌∙◌, ap}
+use Rattle.number_set.specs.Numbers.{NumberSetValue}
+use Rattle.relay_core.specs.RelayValue.{RelayValue}
+use Rattle.relay_core.specs.declared.relay.Relay.TheInside.{Inside}
 use Rattle.rate_group.specs.GroupValue.{GroupsValue}
 use Rattle.relay_core.specs.Timeless.{IsGrouping}
 use Rattle.relay_core.proofs.RelayLemmas.{refilled_sound}
@@ -13,7 +16,7 @@ invariant_of-self-inside c =
       timed = h.timed;
       grouped = refilled_sound r.given r.untimed r.groups.value c.refill.new.self.value c.turn_to-time.result h.grouped
           c.refill.ensures.value;
-      watching = watching-refilled r.watched r.time c.turn_to-time.result r.sides.links r.groups.value c.refill.new.self.value
+      watching = watching-refilled r.resting r.time c.turn_to-time.result r.sides.links r.groups.value c.refill.new.self.value
           c.refill.ensures.value h.watching;
       grouping = subst (λ (z : GroupsValue). IsGrouping r.grouped r.sides.links.opened z.members) (sym c.refill.ensures.value) h.grouping;
       time = h.time;
@@ -21,3 +24,10 @@ invariant_of-self-inside c =
       room = h.room;
       limits = h.limits;
     }
+
+pub returns-clause-alike : goal.returns-clause-alike
+returns-clause-alike c = λ e below out.
+    let is = ap (λ (z : Inside). z.ctl) c.self-inside.view_is ∙ c.self.view_is in
+    c.turn_to-time.ensures.alike e below
+    (sym (ap (λ (z : RelayValue). z.watched.has e.link) is)
+    ∙ sym (ap (λ (w : NumberSetValue). w.has e.link) c.take_timers.ensures.watched) ∙ c.look_at_sides.ensures.watched e.link out)

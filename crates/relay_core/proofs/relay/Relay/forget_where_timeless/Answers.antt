@@ -1,4 +1,13 @@
-use Rattle.std.proofs.Common.{rules}
+use Rattle.std.proofs.Common.{◌≡◌, refl, ap, sym, ◌∙◌, ◌<◌, false, subst}
+use Rattle.ev_types.specs.declared.side.Side.TheVariants.{In}
+use Rattle.ev_types.specs.declared.side.SideId.{SideId}
+use Rattle.ev_types.specs.Sides.{number, peer}
+use Rattle.relay_model.specs.Plain.{side_at}
+use Rattle.relay_state.specs.State.{gauge_at}
+use Rattle.relay_core.specs.Timeless.{side_gains, is_halted, IsStillSide}
+use Rattle.relay_core.specs.RelayValue.{RelayValue}
+use Rattle.relay_core.specs.declared.relay.Relay.TheInside.{Inside}
+use Rattle.relay_core.proofs.RestLemmas.{resting_by}
 use Rattle.relay_core.proofs.WatchLemmas.{watching-fewer}
 use Rattle.relay_core.proofs.relay.Relay.forget_where_timeless.Goals as goal
 
@@ -6,11 +15,22 @@ pub invariant_of-self-inside : goal.invariant_of-self-inside
 invariant_of-self-inside c =
     let r = c.self-inside.inside.0.0 in
     let h = c.self-inside.invariant in
+    let v = c.forget_members.new.self in
+    let is = ap (λ (z : Inside). z.ctl) c.self-inside.view_is in
+    let near : SideId = record { link = c.args.link; side = In } in
     record {
       timed = h.timed;
       grouped = h.grouped;
-      watching = watching-fewer r.watched r.time r.sides.links r.groups.value h.watching c.remove.new.self c.args.link
-          c.remove.ensures.len c.remove.ensures.members (search rules);
+      watching = watching-fewer r.resting r.time r.sides.links r.groups.value h.watching c.rest.new.self near c.gains_at-gain.result
+          c.gains_at-far_gain.result refl
+          (subst (λ (z : RelayValue). c.args.link < z.state.plain.opened) (sym (is ∙ c.forget_members.ensures ∙ c.self.view_is)) c.requires) c.rest.ensures
+          (resting_by r h near c.gains_at-gain.result v is c.if-is_timeless.ensures.still c.if-is_timeless.ensures.unhalted
+          c.gains_at-gain.ensures)
+          (resting_by r h (peer near) c.gains_at-far_gain.result v is
+          (subst (IsStillSide v.state) c.peer.ensures c.if-is_timeless-2.ensures.still)
+          (subst (λ e. is_halted (number e) v.state.groups ≡ false) c.peer.ensures c.if-is_timeless-2.ensures.unhalted)
+          (c.gains_at-far_gain.ensures ∙ ap (λ e. side_gains v.state.plain.time (side_at v.state.plain e) (gauge_at v.state e))
+          c.peer-then-is_timeless-2.ensures));
       grouping = h.grouping;
       time = h.time;
       few = h.few;

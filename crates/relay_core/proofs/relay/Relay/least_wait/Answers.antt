@@ -14,7 +14,7 @@ loop-link-preserved c =
     let s = c.args.self.now.state in
     let k = c.in-Some.link in
     let n = s.plain.opened in
-    let found = c.in-Some.ensures in
+    let found = c.in-Some.ensures.links in
     let near : SideId = record { link = k; side = In } in
     let far : SideId = record { link = k; side = Out } in
     let rest = sides_from (k + 1) (n - (k + 1)) in
@@ -39,5 +39,5 @@ returns c =
     let least = c.loop-link.least in
     sym (earlier-none least)
     ∙ ap (λ ms. earlier least (wait_until s.plain.time ms))
-    (sym (skips-all (expiries s) s.plain.opened c.loop-link.from inv.within (λ e a x. expiries-none s e (c.in_default.ensures e a x))))
+    (sym (skips-all (expiries s) s.plain.opened c.loop-link.from inv.within (λ e a x. expiries-none s e (c.in_default.ensures.links e a x))))
     ∙ inv.rest

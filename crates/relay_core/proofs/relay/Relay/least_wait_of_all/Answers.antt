@@ -28,7 +28,7 @@ returns c =
     let group : List ℕ = group_gains s 0 s.groups.groups in
     let timed = c.earlier-timed.ensures ∙ (λ i. earlier (c.timer_wait-2.ensures i) (c.least_wait.ensures i))
     ∙ sym (wait_until-append t timers expire) in
-    let limited = c.earlier-limited.ensures ∙ (λ i. earlier (timed i) (c.least_gain_wait.ensures i))
+    let limited = c.earlier-limited.ensures ∙ (λ i. earlier (timed i) (c.gain_wait.ensures i))
     ∙ sym (wait_until-append t (timers ++ expire) gain) in
     c.earlier.ensures ∙ (λ i. earlier (limited i) (c.group_wait.ensures i))
     ∙ sym (wait_until-append t ((timers ++ expire) ++ gain) group)

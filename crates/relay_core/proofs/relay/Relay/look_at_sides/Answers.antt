@@ -19,12 +19,13 @@ loop-link-preserved c =
     let s = c.loop-link.self.state in
     let k = c.in-Some.link in
     let n = c.args.self.now.state.plain.opened in
-    let found = c.in-Some.ensures in
+    let found = c.in-Some.ensures.links in
     let below : k < n = (let o = inv.opened in let lt = found.1 in omega (arith, o, lt)) in
     let rest = sides_from (k + 1) (n - (k + 1)) in
     let both = c.look_at_side-in-Some.ensures.state ∙ (λ i. side_timed (c.look_at_side.ensures.state i) (c.peer.ensures i)) in
     record {
       untimed = c.look_at_side-in-Some.ensures.untimed ∙ c.look_at_side.ensures.untimed ∙ inv.untimed;
+      watched = λ n out. inv.watched n (c.look_at_side.ensures.watched n (c.look_at_side-in-Some.ensures.watched n out));
       opened = c.look_at_side-in-Some.ensures.opened ∙ c.look_at_side.ensures.opened ∙ inv.opened;
       within = omega (arith, below);
       rest = ap (λ z. fold side_timed z rest) both
@@ -40,5 +41,5 @@ returns-clause-state c =
     let s = c.loop-link.self.state in
     let n = c.args.self.now.state.plain.opened in
     sym (skips-all (fold side_timed s) n c.loop-link.from inv.within
-    (λ e a b. fold-none s e (c.in_default.ensures e a (let o = inv.opened in omega (arith, o, b)))))
+    (λ e a b. fold-none s e (c.in_default.ensures.links e a (let o = inv.opened in omega (arith, o, b)))))
     ∙ inv.rest

@@ -47,6 +47,8 @@ invariant_of-ctl c = record {
   };
   watching = record {
     covers = (let none = ap (λ (k : Links). k.opened) c.new.ensures in omega (arith, none));
+    places = (let none = ap (λ (k : Links). k.opened) c.new.ensures in omega (arith, none));
+    absent = λ i past. ap (λ xs. moment_for xs i) c.new-2.ensures.moments;
     beside = λ e below out. absurd (let none = ap (λ (k : Links). k.opened) c.new.ensures in omega (arith, none, below));
   };
   grouping = record {

@@ -1,4 +1,4 @@
-use Rattle.std.proofs.Common.{◌≡◌, ℕ, ◌==◌, true, if◌then◌else◌, ◌∙◌, ap, subst, arith, rules}
+use Rattle.std.proofs.Common.{◌≡◌, ℕ, ◌==◌, true, if◌then◌else◌, ◌∙◌, ap, sym, subst, arith, rules}
 use Rattle.ev_types.specs.declared.side.SideId.{SideId}
 use Rattle.ev_types.specs.declared.side.Side.TheVariants.{In}
 use Rattle.relay_sides.specs.declared.opening.NewSide.{NewSide}
@@ -22,23 +22,21 @@ invariant_of-ctl c =
           (record { link = c.opened.result; side = In }) r.groups.value) c.near_side-near.ensures)
           (c.join_where-2.ensures.value ∙ ap (λ
           (n : NewSide). joined_where n.group c.peer.result c.join_where.new.groups.value) c.far_side-far.ensures);
-      watching = watching-opened r.watched c.insert.new.self r.time r.turns r.sides.links c.open.new.self.links r.groups.value
+      watching = watching-opened r.resting c.watch.new.self r.time r.turns r.sides.links c.open.new.self.links r.groups.value
           c.join_where.new.groups.value c.join_where-2.new.groups.value c.near_side-near.result c.far_side-far.result
           (record { link = c.opened.result; side = In }) c.peer.result h.watching c.opened.ensures.pairs.sides c.opened.ensures.pairs.gauges
           (search rules)
-          (subst (λ o. (n : ℕ) → c.insert.new.self.has n ≡ (if n == o then true else r.watched.has n)) c.opened.ensures.count
-          c.insert.ensures.members)
-          c.insert.ensures.len c.open.ensures.links c.opened.ensures.count
+          c.watch.ensures.more (ap c.watch.new.self.watched.has (sym c.opened.ensures.count) ∙ c.watch.ensures.there) c.open.ensures.links c.opened.ensures.count
           (ap (λ (e : SideId). e.link) c.peer.ensures ∙ c.opened.ensures.count) c.join_where.ensures.value
           c.join_where-2.ensures.value;
-      grouping = grouping-opened r.grouped c.insert-2.new.self r.sides.links.opened c.open.new.self.links.opened
+      grouping = grouping-opened r.grouped c.insert.new.self r.sides.links.opened c.open.new.self.links.opened
           (record { link = c.opened.result; side = In }) c.peer.result c.near_side-near.result.group c.far_side-far.result.group
           r.groups.value
           c.join_where.new.groups.value c.join_where-2.new.groups.value (ap (λ (z : Links). z.opened) c.open.ensures.links) (search rules)
           c.opened.ensures.count
           (ap (λ (e : SideId). e.link) c.peer.ensures ∙ c.opened.ensures.count) c.join_where.ensures.value c.join_where-2.ensures.value
-          (subst (λ o. (n : ℕ) → c.insert-2.new.self.has n ≡ (if n == o then true else r.grouped.has n)) c.opened.ensures.count
-          c.insert-2.ensures.members) c.insert-2.ensures.len h.grouping;
+          (subst (λ o. (n : ℕ) → c.insert.new.self.has n ≡ (if n == o then true else r.grouped.has n)) c.opened.ensures.count
+          c.insert.ensures.members) c.insert.ensures.len h.grouping;
       time = h.time;
       few = omega arith;
       room = (let room = h.room in let few = h.few in omega (arith, room, few));

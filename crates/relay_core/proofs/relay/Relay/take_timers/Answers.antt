@@ -16,5 +16,6 @@ loop-side-preserved c = record {
       (ap (λ (z : Inside). z.ctl) c.self-inside.view_is) c.take_due.ensures.rest c.in-Some.ensures.first c.raise.new.self.state
       c.raise.ensures.state c.take_due.ensures.later
       ∙ c.loop-side.invariant.rest;
+  watched = c.raise.ensures.watched ∙ ap (λ (z : Inside). z.ctl.watched) c.self-inside.view_is ∙ c.loop-side.invariant.watched;
   untimed = c.raise.ensures.fire.untimed ∙ ap (λ (z : Inside). z.ctl.untimed) c.self-inside.view_is ∙ c.loop-side.invariant.untimed;
 }

@@ -6,6 +6,7 @@ abbrev pub invariant-loop-side : goal.invariant-loop-side
 invariant-loop-side l = record {
   rest : with_taken l.self-inside.ctl.state ≡ with_taken l.fn.self.state;
   untimed : l.self-inside.ctl.untimed ≡ l.fn.self.untimed;
+  watched : l.self-inside.ctl.watched ≡ l.fn.self.watched;
 }
 
 abbrev pub decreases-loop-side : goal.decreases-loop-side

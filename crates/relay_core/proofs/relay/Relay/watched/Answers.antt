@@ -6,17 +6,16 @@ use Rattle.relay_core.specs.declared.relay.Relay.TheInside.{Inside}
 use Rattle.relay_core.proofs.HaltLemmas.{share-some}
 use Rattle.relay_core.proofs.relay.Relay.watched.Goals as goal
 
-pub returns : goal.returns
-returns c =
+pub returns-clause-beside : goal.returns-clause-beside
+returns-clause-beside c =
     let r = c.self-inside.inside.0.0 in
     let h = c.self-inside.invariant in
-    subst (λ (v : RelayValue). AreTimelessBeside r.watched v.state) (ap (λ (z : Inside). z.ctl) c.self-inside.view_is ∙ c.self.view_is)
+    subst (λ (v : RelayValue). AreTimelessBeside r.resting.watched v.state) (ap (λ (z : Inside). z.ctl) c.self-inside.view_is ∙ c.self.view_is)
     (λ e below out.
     let p = h.watching.beside e below out in
     record {
       reads = p.reads;
       writes = p.writes;
       unexpired = p.unexpired;
-      allowed = p.allowed;
       shared = λ d. share-some (number e) d r.groups.value h.grouped.shares p.unhalted;
     })

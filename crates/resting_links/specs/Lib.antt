@@ -1,0 +1,2 @@
+pub mod RestingValue
+pub mod RestingView
