@@ -10,7 +10,8 @@ use Rattle.bev_world.specs.declared.slot.Kind.{Kind}
 use Rattle.bev_world.specs.declared.slot.Kind.TheVariants as kind
 use Rattle.bev_world.specs.declared.slot.Slot.{Slot}
 use Rattle.bev_world.specs.WorldValue.{WorldValue, no_slot, slot_at, bev_at, is_live, is_freed}
-use Rattle.bev_world.specs.Went.{Went, went_away}
+use Rattle.bev_world.specs.Went.{StillDue, Went, went_away}
+use Rattle.bev_world.proofs.StillDueLemmas.{still-same}
 use Rattle.bev_world.specs.Frees.{live_below, live_under, freed_one, FreesTo}
 use Rattle.bev_world.proofs.WentLemmas.{went_none, went_then}
 
@@ -113,6 +114,8 @@ module _ (w : WorldValue) (n : ℕ) (live : is_live w n ≡ true) where
     kinds = λ m lt. kind m;
     freed = λ m h. stays m h;
     batch = same_filter w.batch;
+    pending = subst (λ es. StillDue es (filter (λ e. not (nat_eq n e.0)) w.pending)) (same_filter w.pending)
+        (still-same (filter (λ e. not (nat_eq n e.0)) w.pending));
     cut = refl;
   }
     where
@@ -128,7 +131,7 @@ module _ (w : WorldValue) (n : ℕ) (live : is_live w n ≡ true) where
         | inr apart ↦ is_there m apart.1 ∙ h
       ]
 
-      same_filter : (cs : List Call) → filter (λ call. not (nat_eq n call.0)) cs ≡ filter (λ call. not (went_away w (freed_one w n) call.0)) cs
+      same_filter : {Y : Type 0} (cs : List (ℕ × Y)) → filter (λ call. not (nat_eq n call.0)) cs ≡ filter (λ call. not (went_away w (freed_one w n) call.0)) cs
       same_filter [] = refl
       same_filter (c ∷ cs) = (let a = sym (away c.0) in let r = same_filter cs in λ i. if a i then c ∷ r i else r i)
 

@@ -6,5 +6,6 @@ pub mod HalvesLemmas
 pub mod Hearing
 pub mod HoldsLemmas
 pub mod RoomLemmas
+pub mod StillDueLemmas
 pub mod Taken
 pub mod WentLemmas

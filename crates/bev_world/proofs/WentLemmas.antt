@@ -1,6 +1,6 @@
 -- What no call on a world does, for calls in a row.
 use Rattle.std.proofs.Common.{◌≡◌, ℕ, zero, suc, ◌+◌, ◌-◌, ◌<◌, Bool, true, false, not, ◌&&◌, if◌then◌else◌, List, [], ◌∷◌, ◌++◌, length}
-use Rattle.std.proofs.Common.{refl, sym, ◌∙◌, ap, arith, inl, inr}
+use Rattle.std.proofs.Common.{refl, sym, ◌∙◌, ap, subst, arith, inl, inr}
 use Rattle.std.specs.Prelude.{filter, slice_index_or, slice_set, nat_lt}
 use Rattle.std.proofs.lemmas.List.{get_or-set_same, get_or-set_other, get_or_default, get_or_append_left, get_or-append-add, length-set}
 use Rattle.std.proofs.lemmas.List.{length-append}
@@ -11,17 +11,18 @@ use Rattle.token_bucket.specs.declared.limit.Dir.TheVariants.{Read, Write}
 use Rattle.bev_core.specs.BevValue.{BevValue}
 use Rattle.bev_core.specs.Steps.{with_enabled, with_marks, touched, ended_at, failed_at}
 use Rattle.ev_types.specs.declared.why.Why.{Why}
-use Rattle.deferred_cb.specs.DueCalls.{Entry, Call}
+use Rattle.deferred_cb.specs.DueCalls.{Entry, Call, with_reason}
 use Rattle.bev_world.specs.declared.slot.Slot.{Slot}
 use Rattle.bev_world.specs.WorldValue.{WorldValue, no_slot, slot_at, is_freed, with_slot, raised, raised_if}
 use Rattle.bev_world.specs.Batches.{IsIdle}
-use Rattle.bev_world.specs.Went.{Went, went_away}
+use Rattle.bev_world.specs.Went.{StillDue, Went, went_away}
+use Rattle.bev_world.proofs.StillDueLemmas.{still-same, still-then, still-filter, still-raised}
 
 and-not : (b : Bool) → (b && not b) ≡ false
 and-not true = refl
 and-not false = refl
 
-all-stay : (p : Call → Bool) → ((c : Call) → p c ≡ true) → (cs : List Call) → filter p cs ≡ cs
+all-stay : {X : Type 0} (p : X → Bool) → ((c : X) → p c ≡ true) → (cs : List X) → filter p cs ≡ cs
 all-stay p all [] = refl
 all-stay p all (c ∷ cs) = ap (λ b. if b then c ∷ filter p cs else filter p cs) (all c) ∙ ap (λ z. c ∷ z) (all-stay p all cs)
 
@@ -31,17 +32,20 @@ went_none w = record {
   kinds = λ n lt. refl;
   freed = λ n h. h;
   batch = sym (all-stay (λ call. not (went_away w w call.0)) (λ c. ap not (and-not (is_freed w c.0))) w.batch);
+  pending = subst (λ es. StillDue es w.pending) (sym (all-stay (λ e. not (went_away w w e.0)) (λ e. ap not (and-not (is_freed w e.0))) w.pending))
+      (still-same w.pending);
   cut = refl;
 }
 
 -- nothing was freed: the same numbers with the same kinds, and freed as before
 pub went_same : (old new : WorldValue) → length new.slots ≡ length old.slots → ((n : ℕ) → (slot_at new n).kind ≡ (slot_at old n).kind) →
-    ((n : ℕ) → (slot_at new n).bev.live ≡ (slot_at old n).bev.live) → new.batch ≡ old.batch → new.cut ≡ old.cut → Went old new
-went_same old new many kinds lives batch cut = record {
+    ((n : ℕ) → (slot_at new n).bev.live ≡ (slot_at old n).bev.live) → new.batch ≡ old.batch → StillDue old.pending new.pending → new.cut ≡ old.cut → Went old new
+went_same old new many kinds lives batch pending cut = record {
   known = omega (arith, many);
   kinds = λ n lt. kinds n;
   freed = λ n h. same n ∙ h;
   batch = batch ∙ sym (all-stay (λ call. not (went_away old new call.0)) (λ c. ap not (stays c.0)) old.batch);
+  pending = subst (λ es. StillDue es new.pending) (sym (all-stay (λ e. not (went_away old new e.0)) (λ e. ap not (stays e.0)) old.pending)) pending;
   cut = cut;
 }
   where
@@ -55,7 +59,7 @@ went_same old new many kinds lives batch cut = record {
 pub went_set : (w : WorldValue) (n : ℕ) (s : Slot) → n < length w.slots → s.kind ≡ (slot_at w n).kind →
     s.bev.live ≡ (slot_at w n).bev.live → Went w (with_slot w n s)
 went_set w n s within kind live =
-    went_same w (with_slot w n s) (length-set w.slots n s) (λ m. part (λ z. z.kind) kind m) (λ m. part (λ z. z.bev.live) live m) refl refl
+    went_same w (with_slot w n s) (length-set w.slots n s) (λ m. part (λ z. z.kind) kind m) (λ m. part (λ z. z.bev.live) live m) refl (still-same w.pending) refl
   where
     part : {A : Type 0} (f : Slot → A) → f s ≡ f (slot_at w n) → (m : ℕ) → f (slot_at (with_slot w n s) m) ≡ f (slot_at w m)
     part f same m = elim (eqb_tells m n) [
@@ -72,6 +76,10 @@ went_then a b c first next = record {
   kinds = λ n lt. next.kinds n (let x = first.known in omega (arith, x, lt)) ∙ first.kinds n lt;
   freed = λ n h. next.freed n (first.freed n h);
   batch = next.batch ∙ ap (filter (λ call. not (went_away b c call.0))) first.batch ∙ both a.batch;
+  pending = subst (λ es. StillDue es c.pending) (both a.pending)
+      (still-then (filter (λ e. not (went_away b c e.0)) (filter (λ e. not (went_away a b e.0)) a.pending))
+      (filter (λ e. not (went_away b c e.0)) b.pending) c.pending
+      (still-filter (λ n. not (went_away b c n)) (filter (λ e. not (went_away a b e.0)) a.pending) b.pending first.pending) next.pending);
   cut = next.cut ∙ first.cut;
 }
   where
@@ -85,20 +93,20 @@ went_then a b c first next = record {
     stays false true false p q = absurd (let k = q refl in cc)
     stays false false z p q = refl
 
-    both : (cs : List Call) →
+    both : {Y : Type 0} (cs : List (ℕ × Y)) →
         filter (λ call. not (went_away b c call.0)) (filter (λ call. not (went_away a b call.0)) cs) ≡ filter (λ call. not (went_away a c call.0)) cs
     both [] = refl
-    both (d ∷ cs) =
+    both {Y} (d ∷ cs) =
         one (both cs) (not (went_away a b d.0))
         (stays (is_freed a d.0) (is_freed b d.0) (is_freed c d.0) (first.freed d.0) (next.freed d.0))
       where
-        later : Call → Bool
+        later : ℕ × Y → Bool
         later call = not (went_away b c call.0)
 
-        mid : List Call
+        mid : List (ℕ × Y)
         mid = filter (λ call. not (went_away a b call.0)) cs
 
-        last : List Call
+        last : List (ℕ × Y)
         last = filter (λ call. not (went_away a c call.0)) cs
 
         one : filter later mid ≡ last → (t : Bool) → (if t then later d else false) ≡ not (went_away a c d.0) →
@@ -110,7 +118,14 @@ went_then a b c first next = record {
 
 -- reasons that become due change nothing of that
 pub went_raised : (a b : WorldValue) (n : ℕ) (y : Why) → Went a b → Went a (raised b n y)
-went_raised a b n y h = record { known = h.known; kinds = h.kinds; freed = h.freed; batch = h.batch; cut = h.cut }
+went_raised a b n y h = record {
+  known = h.known;
+  kinds = h.kinds;
+  freed = h.freed;
+  batch = h.batch;
+  pending = still-then (filter (λ e. not (went_away a b e.0)) a.pending) b.pending (with_reason n y b.pending) h.pending (still-raised n y b.pending);
+  cut = h.cut;
+}
 
 pub went_raised_if : (due : Bool) (a b : WorldValue) (n : ℕ) (y : Why) → Went a b → Went a (raised_if due b n y)
 went_raised_if true a b n y h = went_raised a b n y h
@@ -164,20 +179,24 @@ live_ended b dir = live_enabled b dir false
 pub live_failed : (b : BevValue) (dir : Dir) → (failed_at b dir).live ≡ b.live
 live_failed b dir = live_enabled b dir false
 
--- reasons that wait are other
-pub went_due : (w : WorldValue) (es : List Entry) (cs : List Call) (room : ℕ) → cs ≡ w.batch →
+-- the room for more is other
+pub went_due : (w : WorldValue) (es : List Entry) (cs : List Call) (room : ℕ) → es ≡ w.pending → cs ≡ w.batch →
     Went w (record w { pending = es; batch = cs; spare = room })
-went_due w es cs room same = went_same w (record w { pending = es; batch = cs; spare = room }) refl (λ n. refl) (λ n. refl) same refl
+went_due w es cs room entries same =
+    went_same w (record w { pending = es; batch = cs; spare = room }) refl (λ n. refl) (λ n. refl) same
+    (subst (StillDue w.pending) (sym entries) (still-same w.pending)) refl
 
 -- slots of live bufferevents come behind the others
 pub went_new : (w : WorldValue) (new : List Slot) (es : List Entry) (cs : List Call) (room : ℕ) →
-    ((k : ℕ) → k < length new → (slice_index_or new k no_slot).bev.live ≡ true) → cs ≡ w.batch →
+    ((k : ℕ) → k < length new → (slice_index_or new k no_slot).bev.live ≡ true) → es ≡ w.pending → cs ≡ w.batch →
     Went w (record w { slots = w.slots ++ new; pending = es; batch = cs; spare = room })
-went_new w new es cs room lives same = record {
+went_new w new es cs room lives entries same = record {
   known = let e = length-append w.slots new in omega (arith, e);
   kinds = λ n lt. ap (λ s. s.kind) (get_or_append_left w.slots new no_slot n lt);
   freed = λ n h. same_there n (made n h) ∙ h;
   batch = same ∙ sym (all-stay (λ call. not (went_away w grown call.0)) (λ c. none c.0) w.batch);
+  pending = subst (λ zs. StillDue zs es) (sym (all-stay (λ e. not (went_away w grown e.0)) (λ e. none e.0) w.pending))
+      (subst (StillDue w.pending) (sym entries) (still-same w.pending));
   cut = refl;
 }
   where

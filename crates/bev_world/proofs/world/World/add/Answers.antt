@@ -25,4 +25,4 @@ returns-clause-went c =
     let ss = c.self.inside.slots.items in
     let all = pushed ss c.push.new.self.items c.args.slot c.push.result _ c.push.ensures.items c.unwrap.ensures in
     went_then _ _ _ c.reserve.ensures.went (rw (← c.self.view_is, all) (went_new (world_of c.self.inside) (c.args.slot ∷ []) _ _ _
-    (lives_one c.args.slot c.requires.fits.live) refl))
+    (lives_one c.args.slot c.requires.fits.live) refl refl))

@@ -35,4 +35,4 @@ returns-clause-went c =
     let all : c.push-2.new.self.items ≡ ss ++ c.args.slot ∷ c.args.other ∷ [] =
     second ∙ ap (λ (z : List Slot). z ++ c.args.other ∷ []) first ∙ append_assoc ss (c.args.slot ∷ []) (c.args.other ∷ []) in
     went_then _ _ _ c.reserve.ensures.went (rw (← c.self.view_is, all) (went_new (world_of c.self.inside) (c.args.slot ∷ c.args.other ∷ []) _ _ _
-    (lives_two c.args.slot c.args.other c.requires.fits.live c.requires.other_fits.live) refl))
+    (lives_two c.args.slot c.args.other c.requires.fits.live c.requires.other_fits.live) refl refl))
