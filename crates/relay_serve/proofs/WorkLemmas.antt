@@ -5,7 +5,6 @@ use Rattle.std.proofs.lemmas.Bool.{and_parts, eqb-true, eqb-false, ltb-true, ltb
 use Rattle.ev_types.specs.declared.status.LinkState.TheVariants as state
 use Rattle.ev_types.specs.Trace.{Trace}
 use Rattle.relay_model.specs.Answers.{TurnAnswer}
-use Rattle.relay_model.specs.Settings.{Settings}
 use Rattle.relay_model.specs.Stages.{Stage}
 use Rattle.relay_model.specs.Totals.{opened}
 use Rattle.relay_state.specs.State.{State}
