@@ -8,7 +8,7 @@ use Rattle.ev_types.specs.declared.status.Status.{Status}
 use Rattle.ev_types.specs.declared.status.Status.TheVariants as status
 use Rattle.ev_types.specs.Growth.{Grew}
 use Rattle.ev_types.specs.Sides.{peer}
-use Rattle.ev_types.specs.Told.{EndTold, PortTold, Adds, Raises, Counts, Stays}
+use Rattle.ev_types.specs.Told.{EndTold, PortTold, Adds, Raises, Counts, Becomes, Stays}
 use Rattle.ev_types.specs.Trace.{Trace}
 use Rattle.relay_laws.specs.Relayed.{IsRelayed}
 use Rattle.relay_model.specs.Answers.{TurnAnswer}
@@ -23,7 +23,7 @@ use Rattle.ev_types.specs.declared.route.Route.{Route}
 use Rattle.relay_serve.specs.Seen.{Seen, Drained}
 use Rattle.relay_serve.specs.Served.{IsServed, EndedAs, RanOut, Did, DidWith, settings_on}
 use Rattle.told_port.specs.Calls.{first_told, first_end}
-use Rattle.evrelay.specs.Carried.{Carried, IsPassedOn}
+use Rattle.evrelay.specs.Carried.{Carried, IsPassedOn, IsStartedBy}
 
 -- What is told goes on from nothing
 
@@ -194,10 +194,57 @@ module _ (old new : Seen) (trace : Trace) (n : WasNew old) (log : new.log ≡ So
   carried-made route (inl k) = carried-served route k.0 k.1 k.2 k.3 k.4
   carried-made route (inr same) = (carried-nothing same, passed-nothing same (settings_on route []))
 
+  -- the port was started with the words' addresses
+  started-served : (route : Route) (ended : Status) (answer : TurnAnswer) (failed : Bool) (t : Trace) (links : List LinkCount)
+      → IsServed route [] answer failed old new t links → IsStartedBy route ended new.told
+  started-served route ended answer failed t links k =
+      let before : old.told.started ≡ Some None = ap (λ (z : PortTold). z.started) n.told in
+      let began : k.began.started ≡ Some (Some (route.listen, route.to)) =
+      subst (λ z. Becomes z k.began.started (Some (route.listen, route.to))) before k.start.told_of_start.started in
+      inl (subst (λ z. Stays z new.told.started) began k.tied.port.started)
+
+  started-out : (route : Route) → Made route old new → IsStartedBy route status.Memory new.told
+  started-out route (inl k) = started-served route status.Memory k.0 k.1 k.2 k.3 k.4
+  started-out route (inr same) = inr (refl, ap (λ (z : Seen). z.told.started) same ∙ ap (λ (z : PortTold). z.started) n.told)
+
+  started-ended : (route : Route) (ended own : Status) (t : Trace) (links : List LinkCount) → EndedAs route [] own old new t links
+      → IsStartedBy route ended new.told
+  started-ended route ended status.Ok t links k = started-served route ended TurnAnswer.Went false t links k.0
+  started-ended route ended status.PollFault t links k = started-served route ended TurnAnswer.PollFault false t links k.0
+  started-ended route ended status.OpenFault t links (inl k, rose) = started-served route ended TurnAnswer.OpenFault true t links k
+  started-ended route ended status.OpenFault t links (inr k, rose) = started-served route ended TurnAnswer.Went true t links k.1
+  started-ended route ended status.Spent t links k = started-served route ended TurnAnswer.Went false t links k.0
+  started-ended route ended status.Usage t links k = absurd k
+  started-ended route ended (status.BadScript line) t links k = absurd k
+  started-ended route ended status.ReadFault t links k = absurd k
+  started-ended route ended status.WriteFault t links k = absurd k
+  started-ended route ended (status.Stopped link turn) t links k = absurd (k.2 refl)
+  started-ended route ended status.TooLong t links k = absurd k
+  started-ended route ended status.Memory t links k = absurd k
+
+  started-did : (route : Route) (ended : Status) (before after : Drained) → Did route [] ended old new before after
+      → IsStartedBy route ended new.told
+  started-did route status.Memory before after k = started-out route (made-out route old new k)
+  started-did route status.Ok before after k = started-ended route status.Ok status.Ok k.0 k.1 k.2
+  started-did route status.PollFault before after k = started-ended route status.PollFault status.PollFault k.0 k.1 k.2
+  started-did route status.OpenFault before after k = started-ended route status.OpenFault status.OpenFault k.0 k.1 k.2
+  started-did route status.Spent before after k = started-ended route status.Spent status.Spent k.0 k.1 k.2
+  started-did route status.WriteFault before after k = started-ended route status.WriteFault k.0.2 k.0.0 k.0.1 k.0.4
+  started-did route (status.Stopped link turn) before after k = absurd (k.2.2 refl)
+  started-did route status.Usage before after k = absurd k
+  started-did route (status.BadScript line) before after k = absurd k
+  started-did route status.ReadFault before after k = absurd k
+  started-did route status.TooLong before after k = absurd k
+
   -- whatever the words were
   pub carried-with : (o : Option Route) (ended : Status) (before after : Drained) → DidWith o [] ended old new before after → IsCarried o
   carried-with None ended before after k = (carried-nothing k.1, tt)
   carried-with (Some route) ended before after k = carried-made route (made-did route ended old new before after k)
+
+  pub started-with : (o : Option Route) (ended : Status) (before after : Drained) → DidWith o [] ended old new before after
+      → MatchOption o ⊤ (λ route. IsStartedBy route ended new.told)
+  started-with None ended before after k = tt
+  started-with (Some route) ended before after k = started-did route ended before after k
 
 -- what follows of each value of a success
 pub if_ok-on : {T E : Type 0} {P Q : T → Type 0} (r : Result T E) → IfOk r P → ((x : T) → P x → Q x) → IfOk r Q

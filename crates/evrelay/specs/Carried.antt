@@ -1,6 +1,9 @@
 -- What a run over a port that tells has carried, by what that port told since it was new.
-use Rattle.std.specs.Prelude.{◌≡◌, ◌<◌, ◌-◌, ◌^◌, true, Some, IsSomeAnd}
+use Rattle.std.specs.Prelude.{◌≡◌, ◌⊎◌, ◌<◌, ◌-◌, ◌^◌, true, Some, None, IsSomeAnd}
+use Rattle.ev_types.specs.declared.route.Route.{Route}
 use Rattle.ev_types.specs.declared.side.SideId.{SideId}
+use Rattle.ev_types.specs.declared.status.Status.{Status}
+use Rattle.ev_types.specs.declared.status.Status.TheVariants as status
 use Rattle.ev_types.specs.Sides.{peer}
 use Rattle.ev_types.specs.Told.{EndTold, PortTold}
 use Rattle.ev_types.specs.Trace.{Trace}
@@ -30,3 +33,8 @@ pub record IsPassedOn (g : Settings) (ends : SideId → EndTold) : Type 0 where
       (λ took. IsPrefixOf took (passed (filter_of (read_kind g e.side)) (filter_of (write_kind g (peer e).side)) ended got))))
   pub whole : (e : SideId) → (ends (peer e)).write_ended ≡ Some true → IsSomeAnd (ends e).handed_out (λ got.
       (ends (peer e)).taken ≡ Some (passed_at_end (filter_of (read_kind g e.side)) (filter_of (write_kind g (peer e).side)) got))
+
+-- The last start of the port had the addresses of the words; or memory ran out before it was started.
+abbrev pub IsStartedBy : Route → Status → PortTold → Type 0
+IsStartedBy route ended told =
+    (told.started ≡ Some (Some (route.listen, route.to))) ⊎ ((ended ≡ status.Memory) × (told.started ≡ Some None))

@@ -10,7 +10,7 @@ ghost use Rattle.relay_serve.specs.Seen.{drained};
 ghost use Rattle.relay_serve.specs.Served.{DidWith, settings_on};
 ghost use Rattle.evrelay.specs.Program.{seen_by, shows, Says, LeavesSink, LeavesAll};
 ghost use Rattle.evrelay.specs.RingWants.{last_entries};
-ghost use Rattle.evrelay.specs.Carried.{Carried, IsPassedOn};
+ghost use Rattle.evrelay.specs.Carried.{Carried, IsPassedOn, IsStartedBy};
 ghost use Rattle.told_port.specs.Calls.{told_by, ends_by};
 
 use crate::ring::Ring;
@@ -103,7 +103,8 @@ pub fn relay_program<R: Wait, P: Port, K: Sink, E: Sink>(
 
 /// Does so over a port that tells and is new. So what is said of bytes is said of those that the reads of the port within gave and that
 /// its writes took: end by end they are those of the trace, and whatever happened, those taken at an end are a prefix of what the filters
-/// make of those given at its peer; where writing was ended there, they are all of that. It may never return.
+/// make of those given at its peer; where writing was ended there, they are all of that. The last start of the port within had the words'
+/// addresses. It may never return.
 ///
 /// Own.
 pub fn relay_told<R: Wait, P: Port, K: Sink, E: Sink>(
@@ -122,7 +123,8 @@ pub fn relay_told<R: Wait, P: Port, K: Sink, E: Sink>(
         × Says ended (last_entries trace) (E.taken errors.old) (E.taken errors.new) (E.faults errors.old) (E.faults errors.new)
         × LeavesAll ended port.old port.new sink.old sink.new
         × Carried trace (told_by port.new.log.calls) (ends_by port.new.log.calls)
-        × MatchOption (serve_words_of (map string_bytes all.items)) ⊤ (λ route. IsPassedOn (settings_on route []) (ends_by port.new.log.calls))) }
+        × MatchOption (serve_words_of (map string_bytes all.items)) ⊤ (λ route. IsPassedOn (settings_on route []) (ends_by port.new.log.calls))
+        × MatchOption (serve_words_of (map string_bytes all.items)) ⊤ (λ route. IsStartedBy route ended (told_by port.new.log.calls))) }
     ensures refused { IfErr words (λ bad. (result ≡ status_number (words_status bad))
         × Complains (words_status bad) (E.taken errors.old) (E.taken errors.new) (E.faults errors.old) (E.faults errors.new)
         × (port.new ≡ port.old) × (sink.new ≡ sink.old)) }

@@ -46,7 +46,7 @@ use Rattle.command_words.specs.declared.fault.WordsFault.{WordsFault}
 use Rattle.command_words.specs.declared.fault.WordsFault.TheVariants as words
 use Rattle.relay_serve.specs.Seen.{Seen, Drained}
 use Rattle.relay_serve.specs.Served.{settings_on, BeganSo, IsServed, EndedAs, ReportedAll, RanOut, Did, DidWith}
-use Rattle.relay_serve.specs.Served.{turns_told}
+use Rattle.relay_serve.specs.Served.{turns_told, HasWork, LeavesClosed}
 use Rattle.relay_serve.specs.Underway.{TurnsWent, TurnsEnd, TurnsCut, IsServedOut, RanTo, Reported, ended_as}
 use Rattle.relay_serve.specs.declared.run.ServeEnd.{ServeEnd}
 use Rattle.relay_serve.specs.declared.run.ServeEnd.TheVariants as serve_end
@@ -142,29 +142,31 @@ begun-by route old mid start_failed log cause ends told = record {
 module _ (route : Route) (hooks : List SideId) (old mid new : Seen) (b : Begun route old mid false) where
   -- what turns behind the start came to, where a turn may answer so
   served : (answer : TurnAnswer) (failed : Bool) (x : Stage) (s : State) (After : Trace → State → Type 0) →
-      (w : TurnsWent (settings_on route hooks) After failed mid new s) → StandsFor w.added x s → LeftAt s.settings answer x s.plain →
+      (w : TurnsWent (settings_on route hooks) answer After failed mid new s) → StandsFor w.added x s → LeftAt s.settings answer x s.plain →
       IsServed route hooks answer failed old new w.added (lines_below s s.plain.opened)
   served answer failed x s After w k left = record {
     list = subst (λ z. Grew z new.log w.added) b.log w.list;
     relayed = relayed-of (settings_on route hooks) answer w.added x s w.settings k left w.ends;
+    work = w.work;
     began = mid.told;
     ends_began = mid.ends;
     start = b.start;
     tied = w.tied;
+    closed = w.closed;
     heard = Heard-join old.faults mid.faults new.faults [] w.added false failed b.heard w.heard;
   }
 
   left-served : (answer : TurnAnswer) (failed : Bool) (s : State) →
-      (w : TurnsWent (settings_on route hooks) (LeftFor answer) failed mid new s) →
+      (w : TurnsWent (settings_on route hooks) answer (LeftFor answer) failed mid new s) →
       IsServed route hooks answer failed old new w.added (lines_below s s.plain.opened)
   left-served answer failed s w = served answer failed w.after.stage s (LeftFor answer) w w.after.stands w.after.left
 
-  went-served : (s : State) → (w : TurnsWent (settings_on route hooks) StandsBetween false mid new s) →
+  went-served : (s : State) → (w : TurnsWent (settings_on route hooks) TurnAnswer.Went StandsBetween false mid new s) →
       IsServed route hooks TurnAnswer.Went false old new w.added (lines_below s s.plain.opened)
   went-served s w = served TurnAnswer.Went false Stage.Between s StandsBetween w w.after refl
 
   -- all was served
-  pub ran-out : (s : State) → TurnsWent (settings_on route hooks) StandsBetween false mid new s → IsServedOut s →
+  pub ran-out : (s : State) → TurnsWent (settings_on route hooks) TurnAnswer.Went StandsBetween false mid new s → IsServedOut s →
       RanTo route hooks status.Ok old new s
   ran-out s w all = (
     w.added,
@@ -180,7 +182,8 @@ module _ (route : Route) (hooks : List SideId) (old mid new : Seen) (b : Begun r
 
   -- a hook stopped a turn
   pub ran-stopped : (link turn : ℕ) (s : State) →
-      (went : TurnsWent (settings_on route hooks) (LeftFor (TurnAnswer.Stopped link)) false mid new s) × (turn ≡ turns_told went.added) →
+      (went : TurnsWent (settings_on route hooks) (TurnAnswer.Stopped link) (LeftFor (TurnAnswer.Stopped link)) false mid new s)
+      × (turn ≡ turns_told went.added) →
       RanTo route hooks (status.Stopped link turn) old new s
   ran-stopped link turn s w =
       let went = w.0 in
@@ -210,7 +213,7 @@ pub ran-of : (route : Route) (hooks : List SideId) (old mid new : Seen) → Begu
     (r : Result ServeEnd DriveFault) → MatchResult r (λ end. TurnsEnd end g mid new s) (λ why. TurnsCut why g mid new s) →
     RanTo route hooks (ended_as r) old new s
 ran-of route hooks old mid new b s g is (Ok serve_end.ServedOut) h =
-    ran-out route hooks old mid new b s (subst (λ z. TurnsWent z StandsBetween false mid new s) is h.0) h.1
+    ran-out route hooks old mid new b s (subst (λ z. TurnsWent z TurnAnswer.Went StandsBetween false mid new s) is h.0) h.1
 ran-of route hooks old mid new b s g is (Ok (serve_end.Stopped link turn)) h =
     ran-stopped route hooks old mid new b link turn s (subst (λ z. TurnsEnd (serve_end.Stopped link turn) z mid new s) is h)
 ran-of route hooks old mid new b s g is (Err why) h =
@@ -220,29 +223,32 @@ ran-of route hooks old mid new b s g is (Err why) h =
 
 -- nothing was done behind the start
 module _ (route : Route) (hooks : List SideId) (old new : Seen) (failed : Bool) (b : Begun route old new failed) where
-  only-started : (answer : TurnAnswer) → LeftAt (settings_on route hooks) answer Stage.Between (new_state (settings_on route hooks)).plain →
-      IsServed route hooks answer failed old new [] []
-  only-started answer left =
+  only-started : (answer : TurnAnswer) →
+      LeftAt (settings_on route hooks) answer Stage.Between (new_state (settings_on route hooks)).plain →
+      LeavesClosed answer (settings_on route hooks) new.told new.told [] → IsServed route hooks answer failed old new [] []
+  only-started answer left closed =
       let g = settings_on route hooks in
       let k = new_relay_stands g (built route.settings hooks) in
       record {
         list = subst (λ z. Grew old.log z []) (sym b.log) (Grew-none old.log);
         relayed = relayed-of g answer [] Stage.Between (new_state g) refl k left (ends-none (StoodBetween g));
+        work = ends-none (HasWork route.settings.links);
         began = new.told;
         ends_began = new.ends;
         start = b.start;
         tied = nothing_is_tied g new.told new.ends;
+        closed = closed;
         heard = b.heard;
       }
 
 pub start-failed : (route : Route) (hooks : List SideId) (old new : Seen) → Begun route old new true →
     RanTo route hooks status.OpenFault old new (new_state (settings_on route hooks))
 start-failed route hooks old new b =
-    ([], (inr (refl, only-started route hooks old new true b TurnAnswer.Went refl), b.heard.listener.fault refl))
+    ([], (inr (refl, only-started route hooks old new true b TurnAnswer.Went refl (λ some. absurd (some refl))), b.heard.listener.fault refl))
 
 pub start-lacked : (route : Route) (hooks : List SideId) (old new : Seen) → Begun route old new false →
     RanTo route hooks status.Memory old new (new_state (settings_on route hooks))
-start-lacked route hooks old new b = ([], only-started route hooks old new false b TurnAnswer.Memory tt)
+start-lacked route hooks old new b = ([], only-started route hooks old new false b TurnAnswer.Memory tt tt)
 
 -- The report
 

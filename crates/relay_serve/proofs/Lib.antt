@@ -1,2 +1,4 @@
+pub mod WorkLemmas
 pub mod TurnsLemmas
+pub mod RestLemmas
 pub mod EndLemmas

@@ -29,7 +29,7 @@ use Rattle.relay_drive.specs.declared.fault.TurnEnd.{TurnEnd}
 use Rattle.relay_drive.specs.declared.fault.TurnEnd.TheVariants as end
 use Rattle.relay_drive.specs.DriveStands.{DriveStands, DriveWent, StandsBetween, turn_answer_of, turn_end_of}
 use Rattle.relay_drive.specs.DriveValue.{DriveValue, is_worn}
-use Rattle.relay_drive.specs.Known.{Point, Question}
+use Rattle.relay_drive.specs.Known.{Point, Question, IsClosedSince}
 use Rattle.relay_drive.specs.Seats.{Telling, HooksTell, AreFresh}
 use Rattle.relay_drive.specs.Moves.{knows}
 use Rattle.relay_drive.specs.Phases.{CutTurn, in_poll, CutPolling, is_open_fault}
@@ -39,9 +39,10 @@ use Rattle.program_end.specs.Planned.{HavePlans, AllToldOf}
 use Rattle.program_end.proofs.PlannedLemmas.{all_told-none, all_told-more, all_told-planned, planned-cut}
 use Rattle.program_end.proofs.TurnCountLemmas.{BeginsOnce, count-append}
 use Rattle.relay_serve.specs.Seen.{Seen, seen}
-use Rattle.relay_serve.specs.Served.{turns_told, AskedByPlans}
+use Rattle.relay_serve.specs.Served.{turns_told, HasWork, LeavesClosed, AskedByPlans}
 use Rattle.relay_serve.specs.Underway.{TurnsWent, TurnsEnd, TurnsCut, groupless_drive}
 use Rattle.relay_serve.specs.declared.run.ServeEnd.TheVariants as serve_end
+use Rattle.relay_serve.proofs.WorkLemmas.{work-on}
 
 -- no group is set in what words set
 pub built : (g : code.Settings) (hooks : List SideId) → HasItsGroups (settings_with g hooks)
@@ -49,7 +50,8 @@ built g hooks = record { in_group = tt; out_group = tt; shares = tt }
 
 -- a drive went so, stands for what its turns put, and so many turns are told of
 abbrev pub Standing : Settings → Seen → Seen → DriveValue → ℕ → Type 0
-Standing g old new d turns = (w : TurnsWent g StandsBetween false old new d.state) × DriveStands w.added d × (turns ≡ turns_told w.added)
+Standing g old new d turns =
+    (w : TurnsWent g TurnAnswer.Went StandsBetween false old new d.state) × DriveStands w.added d × (turns ≡ turns_told w.added)
 
 -- before the first turn
 stands-new : (g : code.Settings) (hooks : List SideId) (old : Seen) → Standing (settings_with g hooks) old old (groupless_drive g hooks) 0
@@ -60,7 +62,9 @@ stands-new g hooks old = (
     settings = refl;
     after = new_relay_stands (settings_with g hooks) (built g hooks);
     ends = ends-none (StoodBetween (settings_with g hooks));
+    work = ends-none (HasWork (settings_with g hooks).links);
     tied = nothing_is_tied (settings_with g hooks) old.told old.ends;
+    closed = λ some. absurd (some refl);
     heard = Heard-none old.faults;
   },
   record { fits = record { time = refl; last = refl; opened = refl }; asks = asks_fit-none; entries = refl },
@@ -87,20 +91,22 @@ ends-on g t a s is k ends (inr one) = ends-grow (StoodBetween g) t a ends (stood
 
 -- One more turn, of which this is known, or a part of one.
 pub turns-next : {Plan : Type 0} {R : State → Trace → State → Type 0} {After : Trace → State → Type 0}
-    {Tells : Trace → Type 0} (open_failed : Bool) (g : Settings)
+    {Tells : Trace → Type 0} (open_failed : Bool) (g : Settings) (answer : TurnAnswer)
     (old mid new : Seen) (d e : DriveValue) (v v' : Settings → Question Plan → Trace → Type 0) →
-    (w : TurnsWent g StandsBetween false old mid d.state) →
+    (w : TurnsWent g TurnAnswer.Went StandsBetween false old mid d.state) → HasWork g.links w.added →
     (t : DriveWent R After Tells open_failed d e mid.log new.log v v' mid.faults new.faults) →
     (t.added ≡ []) ⊎ BeginsOnce t.added →
-    IsTied g old.told new.told old.ends new.ends (w.added ++ t.added) →
-    TurnsWent g After open_failed old new e.state
-turns-next open_failed g old mid new d e v v' w t begins tied = record {
+    IsTied g old.told new.told old.ends new.ends (w.added ++ t.added) → LeavesClosed answer g old.told new.told (w.added ++ t.added) →
+    TurnsWent g answer After open_failed old new e.state
+turns-next open_failed g answer old mid new d e v v' w here t begins tied closed = record {
   added = w.added ++ t.added;
   list = Grew-join old.log mid.log new.log w.added t.added w.list t.list;
   settings = t.settings ∙ w.settings;
   after = t.means w.added w.after;
   ends = ends-on g w.added t.added d.state w.settings w.after w.ends begins;
+  work = work-on g.links w.added t.added here w.work begins;
   tied = tied;
+  closed = closed;
   heard = Heard-join old.faults mid.faults new.faults w.added t.added false open_failed w.heard t.heard;
 }
 
@@ -116,28 +122,31 @@ told-next t a turns more was is one =
     omega (arith, was, is, one, all)
 
 -- the same turns, of which something else holds
-abbrev with-after : {g : Settings} {After After' : Trace → State → Type 0} {failed : Bool} {old new : Seen} {s : State} →
-    (w : TurnsWent g After failed old new s) → After' w.added s → TurnsWent g After' failed old new s
+abbrev with-after : {g : Settings} {answer : TurnAnswer} {After After' : Trace → State → Type 0} {failed : Bool} {old new : Seen}
+    {s : State} → (w : TurnsWent g answer After failed old new s) → After' w.added s → TurnsWent g answer After' failed old new s
 with-after w after = record {
   added = w.added;
   list = w.list;
   settings = w.settings;
   after = after;
   ends = w.ends;
+  work = w.work;
   tied = w.tied;
+  closed = w.closed;
   heard = w.heard;
 }
 
 -- A whole turn more.
 pub stands-next : {Plan : Type 0} {R : State → Trace → State → Type 0} {Tells : Trace → Type 0} (x : TurnEnd) (g : Settings)
     (old mid new : Seen) (d e : DriveValue) (turns more : ℕ) (v v' : Settings → Question Plan → Trace → Type 0) → x ≡ end.Went →
-    (k : Standing g old mid d turns) →
+    (k : Standing g old mid d turns) → HasWork g.links k.0.added →
     (t : DriveWent R (LeftFor (turn_end_of x)) Tells false d e mid.log new.log v v' mid.faults new.faults) → BeginsOnce t.added →
-    IsTied g old.told new.told old.ends new.ends (k.0.added ++ t.added) → more ≡ min (turns + 1) (2 ^ 32 - 1) →
+    IsTied g old.told new.told old.ends new.ends (k.0.added ++ t.added) → IsClosedSince g old.told new.told (k.0.added ++ t.added) →
+    more ≡ min (turns + 1) (2 ^ 32 - 1) →
     (stood : Standing g old new e more) × (stood.0.added ≡ k.0.added ++ t.added)
 unfolding turns-next
-stands-next x g old mid new d e turns more v v' went k t once tied is =
-    let w = turns-next false g old mid new d e v v' k.0 t (inr once) tied in
+stands-next x g old mid new d e turns more v v' went k here t once tied closed is =
+    let w = turns-next false g TurnAnswer.Went old mid new d e v v' k.0 here t (inr once) tied (λ some. closed) in
     let stood : Standing g old new e more = (
       with-after w (between-of w.added e.state (subst (λ z. LeftFor (turn_end_of z) w.added e.state) went w.after)),
       t.stands k.0.added k.1,
@@ -148,13 +157,14 @@ stands-next x g old mid new d e turns more v v' went k t once tied is =
 -- A turn more that a hook of this link stopped.
 pub stopped-next : {Plan : Type 0} {R : State → Trace → State → Type 0} {Tells : Trace → Type 0} (x : TurnEnd) (link : ℕ) (g : Settings)
     (old mid new : Seen) (d e : DriveValue) (turns more : ℕ) (v v' : Settings → Question Plan → Trace → Type 0) → x ≡ end.Stopped link →
-    (k : Standing g old mid d turns) →
+    (k : Standing g old mid d turns) → HasWork g.links k.0.added →
     (t : DriveWent R (LeftFor (turn_end_of x)) Tells false d e mid.log new.log v v' mid.faults new.faults) → BeginsOnce t.added →
-    IsTied g old.told new.told old.ends new.ends (k.0.added ++ t.added) → more ≡ min (turns + 1) (2 ^ 32 - 1) →
+    IsTied g old.told new.told old.ends new.ends (k.0.added ++ t.added) → IsClosedSince g old.told new.told (k.0.added ++ t.added) →
+    more ≡ min (turns + 1) (2 ^ 32 - 1) →
     TurnsEnd (serve_end.Stopped link more) g old new e.state
 unfolding turns-next
-stopped-next x link g old mid new d e turns more v v' stopped k t once tied is =
-    let w = turns-next false g old mid new d e v v' k.0 t (inr once) tied in (
+stopped-next x link g old mid new d e turns more v v' stopped k here t once tied closed is =
+    let w = turns-next false g (TurnAnswer.Stopped link) old mid new d e v v' k.0 here t (inr once) tied closed in (
       with-after w (subst (λ z. LeftFor (turn_end_of z) w.added e.state) stopped w.after),
       told-next k.0.added t.added turns more k.2 is once.once,
     )
@@ -168,15 +178,22 @@ spent-never {new = new} (in_poll reading c) = by_case c.second
     by_case (inr x) = x
 
 pub cut-of : (f : DriveFault) (g : Settings) (old new : Seen) (s : State) → f ≢ fault.Spent →
-    TurnsWent g (LeftFor (turn_answer_of f)) (is_open_fault f) old new s → TurnsCut f g old new s
+    TurnsWent g (turn_answer_of f) (LeftFor (turn_answer_of f)) (is_open_fault f) old new s → TurnsCut f g old new s
 cut-of fault.Memory g old new s k w = w
 cut-of fault.PollFault g old new s k w = w
 cut-of fault.OpenFault g old new s k w = w
 cut-of fault.Spent g old new s k w = absurd (k refl)
 
+-- of a turn that was cut off nothing is said of accepting
+pub cut-closed : (f : DriveFault) (g : Settings) (began now : PortTold) (t : Trace) → LeavesClosed (turn_answer_of f) g began now t
+cut-closed fault.Memory g began now t = tt
+cut-closed fault.PollFault g began now t = tt
+cut-closed fault.OpenFault g began now t = tt
+cut-closed fault.Spent g began now t = tt
+
 -- a turn was refused as too much was counted
 pub cut-spent : (g : Settings) (old mid new : Seen) (d : DriveValue) (s : State) (f : DriveFault) →
-    (w : TurnsWent g StandsBetween false old mid d.state) → DriveStands w.added d → is_worn d ≡ true → new ≡ mid → s ≡ d.state →
+    (w : TurnsWent g TurnAnswer.Went StandsBetween false old mid d.state) → DriveStands w.added d → is_worn d ≡ true → new ≡ mid → s ≡ d.state →
     f ≡ fault.Spent → TurnsCut f g old new s
 cut-spent g old mid new d s f w k worn seen_is s_is f_is =
     let base : TurnsCut fault.Spent g old mid d.state = (w, (d, k, w.after, worn)) in
@@ -185,7 +202,7 @@ cut-spent g old mid new d s f w k worn seen_is s_is f_is =
 
 -- and where it was refused for another cause
 pub cut-else : (f : DriveFault) (g : Settings) (old new : Seen) (s before : State) (a : Trace) → CutTurn f before a s →
-    TurnsWent g (LeftFor (turn_answer_of f)) (is_open_fault f) old new s → TurnsCut f g old new s
+    TurnsWent g (turn_answer_of f) (LeftFor (turn_answer_of f)) (is_open_fault f) old new s → TurnsCut f g old new s
 cut-else f g old new s before a cut w = cut-of f g old new s (λ is. spent-never (subst (λ x. CutTurn x before a s) is cut)) w
 
 -- a port that is tied to a trace is tied to it with the entries of a turn, whatever the settings are called
@@ -193,7 +210,8 @@ tied-on : (g s s' : Settings) (began told told' : PortTold) (ends_began ends end
     IsTied g began told ends_began ends t → (IsTied s began told ends_began ends t × ⊤ → IsTied s' began told' ends_began ends' u) →
     IsTied g began told' ends_began ends' u
 tied-on g s s' began told told' ends_began ends ends' t u is same h f =
-    subst (λ z. IsTied z began told' ends_began ends' u) (same ∙ is) (f (subst (λ z. IsTied z began told ends_began ends t) (sym is) h, tt))
+    subst (λ z. IsTied z began told' ends_began ends' u) (same ∙ is)
+    (f (subst (λ z. IsTied z began told ends_began ends t) (sym is) h, tt))
 
 -- So it is of one more turn, or of a part of one.
 pub tied-next : {P S : Type 0} {R : State → Trace → State → Type 0} {After : Trace → State → Type 0} {Tells : Trace → Type 0}
@@ -205,6 +223,18 @@ pub tied-next : {P S : Type 0} {R : State → Trace → State → Type 0} {After
 tied-next p h is failed g old d e was now s s' turns k t =
     tied-on g d.state.settings e.state.settings old.told (p.told was) (p.told now) old.ends (p.ends was) (p.ends now) k.0.added
     (k.0.added ++ t.added) k.0.settings t.settings k.0.tied (λ x. (t.told (Question.Tied old.told old.ends) k.0.added k.1 x).0)
+
+-- Behind a whole turn accepting stands closed as that turn left it.
+pub closed-next : {P S : Type 0} {R : State → Trace → State → Type 0} {After : Trace → State → Type 0} {Tells : Trace → Type 0}
+    (p : port.Ghosts P) (h : scribe.Ghosts S) (failed : Bool) (g : Settings) (old : Seen) (d e : DriveValue) (was now : P)
+    (s s' : S) (turns : ℕ) → (k : Standing g old (seen p h (was, s)) d turns) →
+    (t : DriveWent R After Tells failed d e (h.trace s) (h.trace s') (knows p Point.Between was) (knows p Point.Accepted now) (p.faults was)
+    (p.faults now)) →
+    IsClosedSince g old.told (p.told now) (k.0.added ++ t.added)
+closed-next p h failed g old d e was now s s' turns k t =
+    let before = subst (λ z. IsTied z old.told (p.told was) old.ends (p.ends was) k.0.added) (sym k.0.settings) k.0.tied in
+    subst (λ z. IsClosedSince z old.told (p.told now) (k.0.added ++ t.added)) (t.settings ∙ k.0.settings)
+    ((t.told (Question.Tied old.told old.ends) k.0.added k.1 (before, tt)).1.1)
 
 pub same-fault : {T : Type 0} {f h : DriveFault} → ◌≡◌ {A = Result T DriveFault} (Err f) (Err h) → f ≡ h
 same-fault k = cc k

@@ -1,5 +1,5 @@
 -- What `serve` says of the run that it made over a port.
-use Rattle.std.specs.Prelude.{◌≡◌, ◌≢◌, ◌⊎◌, ℕ, ◌<◌, ◌-◌, ◌^◌, min, Bool, true, false, List, [], length, take, All, Option, Some, None}
+use Rattle.std.specs.Prelude.{◌≡◌, ◌≢◌, ◌⊎◌, ℕ, ◌<◌, ◌-◌, ◌^◌, min, ⊤, Bool, true, false, List, [], length, take, All, Option, Some, None}
 use Rattle.std.specs.Prelude.{count_by}
 use Rattle.ev_types.specs.declared.plan_line.PlanLine.{PlanLine}
 use Rattle.ev_types.specs.declared.side.SideId.{SideId}
@@ -22,10 +22,13 @@ use Rattle.relay_model.specs.Settings.{Settings, settings_with}
 use Rattle.relay_model.specs.Tied.{IsTied}
 use Rattle.relay_model.specs.Totals.{opened}
 use Rattle.ev_types.specs.declared.route.Route.{Route}
+use Rattle.relay_laws.specs.Links.{link_state_in}
 use Rattle.relay_laws.specs.Relayed.{IsRelayed}
+use Rattle.relay_laws.specs.TurnEnds.{AtTurnEnds}
 use Rattle.relay_drive.specs.Advances.{Heard}
 use Rattle.relay_drive.specs.DriveStands.{DriveStands, StandsBetween}
 use Rattle.relay_drive.specs.DriveValue.{DriveValue, is_worn}
+use Rattle.relay_drive.specs.Known.{IsClosedSince}
 use Rattle.relay_drive.specs.Seats.{Telling}
 use Rattle.program_end.specs.Planned.{HavePlans}
 use Rattle.relay_serve.specs.Seen.{Seen, Drained}
@@ -39,17 +42,31 @@ pub record BeganSo (route : Route) (old : Seen) (told : PortTold) (ends : SideId
   pub told_of_start : StartedAt old.told told route.listen route.to
   pub ends_stay : AllWent old.ends ends (λ _. no_step)
 
+-- behind a trace a link was still to be opened, or was open
+abbrev pub HasWork : ℕ → Trace → Type 0
+HasWork links t = (opened t < links) ⊎ ((link : ℕ) × (link < opened t) × (link_state_in t link ≡ state.Live))
+
+-- Behind turns of which none was cut off, accepting stands closed as the last of them left it: where the port tells of that, it stands
+-- open only if that turn opened as many links as a turn may open, or as many were opened as may be in all.
+abbrev pub LeavesClosed : TurnAnswer → Settings → PortTold → PortTold → Trace → Type 0
+LeavesClosed TurnAnswer.Went g began now t = t ≢ [] → IsClosedSince g began now t
+LeavesClosed (TurnAnswer.Stopped link) g began now t = IsClosedSince g began now t
+LeavesClosed _ g began now t = ⊤
+
 -- The run made this trace, which stands behind what the scribe had; a relay with these settings and hooks made it, and ended with this
--- answer. The port was started with the addresses, and is tied to the trace since then. The counts of its faults rose exactly where the
--- trace tells of a fault, and that of its listener where this says so.
+-- answer. Each of its turns began while a link was still to be opened or was open. The port was started with the addresses, and is tied
+-- to the trace since then: it was not started again. The counts of its faults rose exactly where the trace tells of a fault, and that of
+-- its listener where this says so.
 pub record IsServed (route : Route) (hooks : List SideId) (answer : TurnAnswer) (open_failed : Bool) (old new : Seen) (t : Trace)
     (links : List LinkCount) : Type 0 where
   pub list : Grew old.log new.log t
   pub relayed : IsRelayed (settings_on route hooks) answer t links
+  pub work : AtTurnEnds (HasWork route.settings.links) t
   pub began : PortTold
   pub ends_began : SideId → EndTold
   pub start : BeganSo route old began ends_began
   pub tied : IsTied (settings_on route hooks) began new.told ends_began new.ends t
+  pub closed : LeavesClosed answer (settings_on route hooks) began new.told t
   pub heard : Heard old.faults new.faults t open_failed
 
 -- so many links were opened as were asked for, and none is open

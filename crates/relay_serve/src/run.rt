@@ -1,10 +1,10 @@
 // A run over a port: it is started once, and turns are made until all links were opened and none is open, or a hook stops one.
-ghost use Rattle.std.specs.Prelude.{◌≡◌, ◌≢◌};
+ghost use Rattle.std.specs.Prelude.{◌≡◌, ◌≢◌, ◌||◌, not};
 ghost use Rattle.ev_types.specs.declared.status.Status.TheVariants.{WriteFault};
 ghost use Rattle.relay_drive.specs.Seats.{telling, seated_sides, AreFresh, AreSeated};
 ghost use Rattle.relay_serve.specs.Seen.{seen, drained};
 ghost use Rattle.relay_serve.specs.Served.{Did, AskedByPlans};
-ghost use Rattle.relay_serve.specs.Underway.{TurnsGo, RanTo, ended_as, groupless_drive};
+ghost use Rattle.relay_serve.specs.Underway.{TurnsGo, RanTo, PortRests, is_served_out, ended_as, groupless_drive};
 
 use crate::report::report;
 use ev_port::{Port, Scribe, Sink, Started};
@@ -22,6 +22,24 @@ pub enum ServeEnd {
     ServedOut,
     /// A hook of this link stopped the turn of this number, counted from 1 up to the end of a u32.
     Stopped(u32, u32),
+}
+
+/// Whether as many links were opened as may be, and none is open.
+fn is_served_out(settings: &Settings, drive: &Drive) -> bool
+    ensures { result ≡ is_served_out drive.now.state settings.now.links }
+{
+    drive.opened() == settings.links && !drive.has_open_links()
+}
+
+/// Says to the port that no more links will be asked for, where that is so and it was not said before.
+fn stop_accepting<P: Port>(accepts: bool, told: &mut bool, port: &mut P)
+    ensures told { told.new ≡ (told.old || not accepts) }
+    ensures rests { PortRests P.Port port.old port.new }
+{
+    if !accepts && !*told {
+        port.stop_accepting();
+        *told = true;
+    }
 }
 
 /// Makes turns until so many links were opened as the settings allow and none is open, or a hook stops one.
@@ -42,8 +60,10 @@ fn make_turns<R: Wait, P: Port, S: Scribe>(
         seats.old.hooks.items (S.trace scribe.old) (S.trace scribe.new) }
 {
     let mut turns = 0u32;
+    let mut told = false;
     for _ in rt.forever() {
-        if drive.opened() == settings.links && !drive.has_open_links() {
+        stop_accepting(drive.opened() < settings.links, &mut told, port);
+        if is_served_out(settings, drive) {
             return Ok(ServeEnd::ServedOut);
         }
         turns = turns.saturating_add(1);
@@ -109,7 +129,7 @@ fn relay_seated<R: Wait, P: Port, S: Scribe, K: Sink>(
 }
 
 /// Relays over a port: starts it once, makes turns until so many links were opened as the settings allow and none is open, and writes
-/// the report. A hook in place i of the list is that of the side with the number i: side In of link 0 has 0, side Out of it 1, and so on.
+/// the report. Once all links were opened it says to the port that no more will be asked for. A hook in place i of the list is that of the side with the number i: side In of link 0 has 0, side Out of it 1, and so on.
 /// One that stops the run, a failed start, a failed poll or accept, and counts that came to 2^62 end the run, and the report is written
 /// all the same; want of memory ends it with nothing written. It may never return. Between two turns constant cost until all
 /// links were opened; before the first, linear in the hooks.
