@@ -4,7 +4,6 @@ use Rattle.ev_types.specs.Trace.{Trace}
 use Rattle.ev_types.specs.declared.entry.Entry.{Entry}
 use Rattle.ev_types.specs.declared.entry.Entry.TheVariants as entry
 use Rattle.ev_port.specs.declared.port.Want.{Want}
-use Rattle.evrelay.specs.declared.last.LastEntries.{LastEntries}
 
 -- the last n of some items, or all, where they are no more
 abbrev pub keep_last : {X : Type 0} → ℕ → List X → List X
@@ -21,5 +20,5 @@ abbrev pub want_entry : Want → Entry
 want_entry w = entry.Want w.side w.read w.write
 
 -- the last 64 of the entries in two halves
-abbrev pub last_of : LastEntries → List Entry
-last_of l = keep_last 64 (l.older.items ++ l.newer.items)
+abbrev pub last_of : List Entry → List Entry → List Entry
+last_of older newer = keep_last 64 (older ++ newer)

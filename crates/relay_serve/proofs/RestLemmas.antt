@@ -1,5 +1,5 @@
 -- A run in which nothing was called but that its port was told to stop accepting, by which the port tells nothing new.
-use Rattle.std.proofs.Common.{◌≡◌, List, [], true, false, Option, Some, None, refl, sym, subst, append-nil}
+use Rattle.std.proofs.Common.{◌≡◌, ℕ, Bool, List, [], true, false, Option, Some, None, refl, sym, subst, append-nil}
 use Rattle.std.specs.Prelude.{⊤, MatchOption, IsSome}
 use Rattle.ev_types.specs.declared.side.SideId.{SideId}
 use Rattle.ev_types.specs.Growth.{Grew}

@@ -5,7 +5,6 @@ use Rattle.std.proofs.lemmas.Bool.{and_parts, eqb-true, eqb-false, ltb-true, ltb
 use Rattle.ev_types.specs.declared.status.LinkState.TheVariants as state
 use Rattle.ev_types.specs.Trace.{Trace}
 use Rattle.relay_model.specs.Answers.{TurnAnswer}
-use Rattle.relay_model.specs.Settings.{Settings}
 use Rattle.relay_model.specs.Stages.{Stage}
 use Rattle.relay_model.specs.Totals.{opened}
 use Rattle.relay_state.specs.State.{State}
@@ -30,16 +29,16 @@ work-on links t a here work (inr one) = ends-grow (HasWork links) t a work here 
 -- a link that lives, where some do
 living : (t : Trace) (n : ℕ) → 0 < living_below t n → (link : ℕ) × (link < n) × (link_state_in t link ≡ state.Live)
 living t zero h = absurd (omega (arith, h))
-living t (suc n) h = go (lives_in t n) refl h
+living t (suc n) h = go (λ k. living t n k) (lives_in t n) refl h
   where
-    go : (b : Bool) → lives_in t n ≡ b → 0 < living_below t n + (if b then 1 else 0) →
-        (link : ℕ) × (link < suc n) × (link_state_in t link ≡ state.Live)
-    go true is h = (
+    go : (0 < living_below t n → (link : ℕ) × (link < n) × (link_state_in t link ≡ state.Live)) → (b : Bool) → lives_in t n ≡ b →
+        0 < living_below t n + (if b then 1 else 0) → (link : ℕ) × (link < suc n) × (link_state_in t link ≡ state.Live)
+    go less true is h = (
       n,
       omega arith,
       ap (λ z. if z then state.Live else (if is_done (in_side n) t && is_done (out_side n) t then state.Done else state.Gone)) is,
     )
-    go false is h = let k = living t n (omega (arith, h)) in (k.0, (let lt = k.1 in omega (arith, lt)), k.2)
+    go less false is h = let k = less (omega (arith, h)) in (k.0, (let lt = k.1 in omega (arith, lt)), k.2)
 
 -- a relay that is not served out has work by its trace
 pub has-work : (t : Trace) (s : State) (links : ℕ) → StandsBetween t s → s.settings.links ≡ links → is_served_out s links ≡ false →
