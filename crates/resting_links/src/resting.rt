@@ -21,7 +21,6 @@ pub struct RestingLinks {
 
 impl Model for RestingLinks {
     ghost use Rattle.resting_links.specs.RestingValue.{RestingValue};
-
     ghost use Rattle.std.specs.Coded.{codes};
     ghost use Rattle.number_set.specs.Code.{number_set_code};
 

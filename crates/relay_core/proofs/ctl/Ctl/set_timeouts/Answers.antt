@@ -1,4 +1,6 @@
-use Rattle.std.proofs.Common.{rules, ◌∙◌, sym, ap}
+use Rattle.std.proofs.Common.{◌≡◌, true, rules, ◌∙◌, sym, ap, arith}
+use Rattle.relay_model.specs.Plain.{PlainSide}
+use Rattle.relay_core.proofs.RelayLemmas.{lowered, still_sound}
 use Rattle.std.proofs.lemmas.List.{set-get_or}
 use Rattle.ev_types.specs.Sides.{number}
 use Rattle.relay_state.specs.Running.{no_gauge}
@@ -13,8 +15,20 @@ invariant_of-self c =
     let h = c.self.invariant in
     let k = r.sides.links in
     let e = c.args.side in
+    let down : c.if-read_ms-eq0.self ≡ true → (r.untimed ≡ true) × (c.args.read_ms ≡ 0) × (c.args.write_ms ≡ 0) = λ t. search rules in
+    let f : PlainSide → PlainSide =
+    λ x. record x { timeouts = record { read_ms = c.args.read_ms; write_ms = c.args.write_ms }; last_read = r.time; last_write = r.time } in
     record {
-      timed = search rules;
+      timed = still_sound r.settings r.time c.if-read_ms-eq0.self k c.set_timeouts.new.self.links e f
+          (lowered r.settings r.time r.untimed c.if-read_ms-eq0.self k (λ t. (down t).0) h.timed)
+          (λ p. (
+            omega arith,
+            omega arith,
+            λ t.
+                let none = down t in
+                ((λ i. record { read_ms = none.1 i; write_ms = none.2 i }), (p.2 t).1, (p.2 t).2),
+          ))
+          (ap (λ (z : Links). z.sides) c.set_timeouts.ensures) (ap (λ (z : Links). z.gauges) c.set_timeouts.ensures);
       grouped = search rules;
       watching = watching-more r.resting r.time k r.groups.value h.watching c.watch.new.self c.set_timeouts.new.self.links
           r.groups.value e _ (links.gauge_at k e) c.watch.ensures.more c.watch.ensures.there

@@ -24,11 +24,11 @@ invariant_of-self-inside c =
       watching = watching-fewer r.resting r.time r.sides.links r.groups.value h.watching c.rest.new.self near c.gains_at-gain.result
           c.gains_at-far_gain.result refl
           (subst (λ (z : RelayValue). c.args.link < z.state.plain.opened) (sym (is ∙ c.forget_members.ensures ∙ c.self.view_is)) c.requires) c.rest.ensures
-          (resting_by r h near c.gains_at-gain.result v is c.if-is_timeless.ensures.still c.if-is_timeless.ensures.unhalted
+          (resting_by r h near c.gains_at-gain.result v is (c.if-is_timeless.ensures.still refl) (c.if-is_timeless.ensures.unhalted refl)
           c.gains_at-gain.ensures)
           (resting_by r h (peer near) c.gains_at-far_gain.result v is
-          (subst (IsStillSide v.state) c.peer.ensures c.if-is_timeless-2.ensures.still)
-          (subst (λ e. is_halted (number e) v.state.groups ≡ false) c.peer.ensures c.if-is_timeless-2.ensures.unhalted)
+          (subst (IsStillSide v.state) c.peer.ensures (c.if-is_timeless-2.ensures.still refl))
+          (subst (λ e. is_halted (number e) v.state.groups ≡ false) c.peer.ensures (c.if-is_timeless-2.ensures.unhalted refl))
           (c.gains_at-far_gain.ensures ∙ ap (λ e. side_gains v.state.plain.time (side_at v.state.plain e) (gauge_at v.state e))
           c.peer-then-is_timeless-2.ensures));
       grouping = h.grouping;

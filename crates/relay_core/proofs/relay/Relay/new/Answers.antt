@@ -11,6 +11,7 @@ use Rattle.relay_sides.specs.Links.{Links}
 use Rattle.relay_core.specs.GivenGroups.{group_given}
 use Rattle.relay_core.specs.RelayView.{IsSoundSide}
 use Rattle.relay_core.proofs.RelayLemmas.{length-map}
+use Rattle.next_moments.specs.Earliest.{moment_for}
 use Rattle.relay_core.proofs.relay.Relay.new.Goals as goal
 
 -- as many groups are made as are given, and none where none is
@@ -48,7 +49,7 @@ invariant_of-ctl c = record {
   watching = record {
     covers = (let none = ap (λ (k : Links). k.opened) c.new.ensures in omega (arith, none));
     places = (let none = ap (λ (k : Links). k.opened) c.new.ensures in omega (arith, none));
-    absent = λ i past. ap (λ xs. moment_for xs i) c.new-2.ensures.moments;
+    absent = λ i past. ap (λ xs. moment_for xs i) c.new-5.ensures.moments;
     beside = λ e below out. absurd (let none = ap (λ (k : Links). k.opened) c.new.ensures in omega (arith, none, below));
   };
   grouping = record {

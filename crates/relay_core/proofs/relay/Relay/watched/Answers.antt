@@ -1,4 +1,5 @@
-use Rattle.std.proofs.Common.{ap, subst, ◌∙◌}
+use Rattle.std.proofs.Common.{ap, sym, subst, ◌∙◌}
+use Rattle.number_set.specs.Numbers.{NumberSetValue}
 use Rattle.ev_types.specs.Sides.{number}
 use Rattle.relay_core.specs.RelayValue.{RelayValue}
 use Rattle.relay_core.specs.Timeless.{AreTimelessBeside}
@@ -10,7 +11,8 @@ pub returns-clause-beside : goal.returns-clause-beside
 returns-clause-beside c =
     let r = c.self-inside.inside.0.0 in
     let h = c.self-inside.invariant in
-    subst (λ (v : RelayValue). AreTimelessBeside r.resting.watched v.state) (ap (λ (z : Inside). z.ctl) c.self-inside.view_is ∙ c.self.view_is)
+    subst (λ (set : NumberSetValue). AreTimelessBeside set c.args.self.now.state) (sym c.watched.ensures)
+    (subst (λ (v : RelayValue). AreTimelessBeside r.resting.watched v.state) (ap (λ (z : Inside). z.ctl) c.self-inside.view_is ∙ c.self.view_is)
     (λ e below out.
     let p = h.watching.beside e below out in
     record {
@@ -18,4 +20,4 @@ returns-clause-beside c =
       writes = p.writes;
       unexpired = p.unexpired;
       shared = λ d. share-some (number e) d r.groups.value h.grouped.shares p.unhalted;
-    })
+    }))

@@ -1,13 +1,29 @@
-use Rattle.std.proofs.Common.{true, false, refl, ap}
+use Rattle.std.proofs.Common.{true, false, refl, ap, ◌∙◌, subst, length, arith}
+use Rattle.relay_state.specs.State.{State}
+use Rattle.relay_state.specs.Rooms.{write_room, waiting_for}
+use Rattle.relay_core.specs.Answered.{TakesAtMost}
+use Rattle.relay_core.specs.RelayValue.{RelayValue}
+use Rattle.relay_core.specs.declared.relay.Relay.TheInside.{Inside}
 use Rattle.token_bucket.specs.declared.limit.Dir.TheVariants as dir
 use Rattle.relay_model.specs.Plain.{PlainSide}
 use Rattle.relay_model.specs.Moments.{active_at}
 use Rattle.relay_sides.specs.Links as links
 use Rattle.relay_sides.specs.Links.{Links}
-use Rattle.relay_core.proofs.RelayLemmas.{still_sound}
+use Rattle.relay_core.proofs.RelayLemmas.{still_sound, write-within}
 use Rattle.relay_core.proofs.TimeLemmas.{active_sound}
 use Rattle.relay_core.proofs.WatchLemmas.{changed_sound, watching-took, grouping-at}
 use Rattle.relay_core.proofs.relay.Relay.write_answered.Goals as goal
+
+pub took-requires-clause-within : goal.took-requires-clause-within
+took-requires-clause-within c =
+    let s = c.args.self.now.state in
+    let e = c.args.side in
+    let le = subst (TakesAtMost (write_room s e)) c.in-Took.is c.requires.within in
+    let within = (write-within s e c.in-Took.count le).2 in
+    let same = ap (λ (z : Inside). length (waiting_for z.ctl.state e)) c.self-inside.view_is
+    ∙ ap (λ (z : State). length (waiting_for z e)) c.spend.ensures.state
+    ∙ ap (λ (z : RelayValue). length (waiting_for z.state e)) c.self.view_is in
+    omega (arith, within, same)
 
 pub invariant_of-self-inside : goal.invariant_of-self-inside
 invariant_of-self-inside c =
