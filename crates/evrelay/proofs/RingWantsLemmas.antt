@@ -1,5 +1,6 @@
 -- The last entries behind the wants of a table, of which only the last are looked at where they are many.
-use Rattle.std.proofs.Common.{◌≡◌, ◌∙◌, ℕ, ◌+◌, ◌-◌, ◌*◌, ◌<◌, ◌≤◌, List, [], ◌∷◌, ◌++◌, length, drop, set, length-set, refl, sym, ap, arith}
+use Rattle.std.proofs.Common.{◌≡◌, ◌∙◌, ℕ, ◌+◌, ◌-◌, ◌*◌, ◌<◌, ◌≤◌, List, [], ◌∷◌, ◌++◌, length, drop, set, length-set, refl, sym, ap}
+use Rattle.std.proofs.Common.{arith}
 use Rattle.std.proofs.Common.{append-nil, append_assoc, length-append}
 use Rattle.std.specs.Prelude.{map, min}
 use Rattle.std.proofs.Math.Seq.{drop-length}
@@ -87,7 +88,8 @@ fill-begin t items long = record {
   stand = ap (λ n. drop n items) (sym long) ∙ drop-length items;
 }
 
-pub fill-more : (t : WantsValue) (before at next : ℕ) (items : List Entry) (w : Want) (e : Entry) (number_is : ℕ) → FilledSoFar t before at items
+pub fill-more : (t : WantsValue) (before at next : ℕ) (items : List Entry) (w : Want) (e : Entry) (number_is : ℕ)
+    → FilledSoFar t before at items
     → 0 < at → next ≡ at - 1 → PreviousWant t before w → number_is ≡ number w.side → e ≡ want_entry w
     → FilledSoFar t number_is next (set items next e)
 fill-more t before at next items w e n s some is previous here one =

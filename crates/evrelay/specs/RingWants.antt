@@ -20,5 +20,5 @@ abbrev pub want_entry : Want → Entry
 want_entry w = entry.Want w.side w.read w.write
 
 -- the last 64 of the entries in two halves
-abbrev pub last_of : List Entry → List Entry → List Entry
-last_of older newer = keep_last 64 (older ++ newer)
+abbrev pub kept_last : List Entry → List Entry → List Entry
+kept_last older newer = keep_last 64 (older ++ newer)

@@ -3,7 +3,7 @@ ghost use Rattle.std.specs.Prelude.{◌≡◌, ◌≤◌, ◌∷◌, [], ◌++�
 ghost use Rattle.ev_port.specs.Table.{named};
 ghost use Rattle.script_text.specs.Room.{HasRoom, GrewBy, room_of};
 ghost use Rattle.evrelay.specs.RingText.{ring_text};
-ghost use Rattle.evrelay.specs.RingWants.{keep_last, last_of, want_entry};
+ghost use Rattle.evrelay.specs.RingWants.{keep_last, kept_last, want_entry};
 
 use crate::lines::put_lines;
 use ev_port::{Want, WantTable};
@@ -31,7 +31,7 @@ pub(crate) struct LastEntries {
 impl LastEntries {
     /// No entry. It is refused for want of memory alone.
     pub(crate) fn new(alloc: Global) -> Result<LastEntries, NoMemory>
-        ensures { IfOk result (λ last. last_of last.older.items last.newer.items ≡ []) }
+        ensures { IfOk result (λ last. kept_last last.older.items last.newer.items ≡ []) }
     {
         Ok(LastEntries {
             older: Vec::with_capacity(alloc, KEPT)?,
@@ -41,7 +41,8 @@ impl LastEntries {
 
     /// One entry more.
     pub(crate) fn push(&mut self, entry: Entry)
-        ensures { last_of self.new.older.items self.new.newer.items ≡ keep_last 64 (last_of self.old.older.items self.old.newer.items ++ entry ∷ []) }
+        ensures { kept_last self.new.older.items self.new.newer.items
+            ≡ keep_last 64 (kept_last self.old.older.items self.old.newer.items ++ entry ∷ []) }
     {
         if self.newer.len() >= KEPT {
             swap(&mut self.older, &mut self.newer);
@@ -52,7 +53,8 @@ impl LastEntries {
 
     /// The wants of a table. Where they are 64 or more only the last are looked at.
     pub(crate) fn push_wants(&mut self, wants: &WantTable)
-        ensures { last_of self.new.older.items self.new.newer.items ≡ keep_last 64 (last_of self.old.older.items self.old.newer.items ++ map want_entry (named wants.now)) }
+        ensures { kept_last self.new.older.items self.new.newer.items
+            ≡ keep_last 64 (kept_last self.old.older.items self.old.newer.items ++ map want_entry (named wants.now)) }
     {
         if wants.count() >= KEPT {
             put_last(&mut self.older, wants);
@@ -63,7 +65,8 @@ impl LastEntries {
     }
 
     fn push_each(&mut self, wants: &WantTable)
-        ensures { last_of self.new.older.items self.new.newer.items ≡ keep_last 64 (last_of self.old.older.items self.old.newer.items ++ map want_entry (named wants.now)) }
+        ensures { kept_last self.new.older.items self.new.newer.items
+            ≡ keep_last 64 (kept_last self.old.older.items self.old.newer.items ++ map want_entry (named wants.now)) }
     {
         let mut from = 0;
         while let Some(want) = wants.next_wanted(from) {
@@ -75,7 +78,7 @@ impl LastEntries {
     /// Appends the lines of the last 64 entries, the oldest first.
     pub(crate) fn put_text(&self, text: &mut Vec<u8>)
         requires { HasRoom text.old (room_of 64 0) }
-        ensures { GrewBy (ring_text (last_of self.now.older.items self.now.newer.items)) (room_of 64 0) text.old text.new }
+        ensures { GrewBy (ring_text (kept_last self.now.older.items self.now.newer.items)) (room_of 64 0) text.old text.new }
     {
         let passed = (self.older.len() + self.newer.len()).saturating_sub(KEPT);
         let (_, older) = self.older.split_at(passed);

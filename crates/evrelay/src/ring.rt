@@ -5,7 +5,7 @@ ghost use Rattle.ev_port.specs.Polling.{want_events};
 ghost use Rattle.ev_port.specs.Table.{named};
 ghost use Rattle.script_text.specs.Room.{room_of};
 ghost use Rattle.evrelay.specs.RingText.{ring_text};
-ghost use Rattle.evrelay.specs.RingWants.{last_entries, last_of};
+ghost use Rattle.evrelay.specs.RingWants.{last_entries, kept_last};
 
 use crate::last::{KEPT, LastEntries};
 use ev_port::{LogStep, Scribe, TraceLog, WantTable};
@@ -23,7 +23,7 @@ pub struct Ring {
     pub(crate) text: Vec<u8>,
     told: TraceLog,
     ghost room: { room_of 64 0 ≤ vec_capacity text },
-    ghost kept: { last_of entries.older.items entries.newer.items ≡ last_entries told.trace },
+    ghost kept: { kept_last entries.older.items entries.newer.items ≡ last_entries told.trace },
 }
 
 impl Ring {

@@ -13,8 +13,8 @@ use program_end::write_text;
 use script_text::{make_room, put_entry};
 use std::alloc::Global;
 
-/// A scribe that writes a line to a sink for each side that is freed, with its cause, how many bytes were moved from it and how many its end
-/// was given. It keeps no entry, and room for one line, so no step of the relay ever waits for memory of it. A line that the sink
+/// A scribe that writes a line to a sink for each side that is freed, with its cause, how many bytes were moved from it and how many its
+/// end was given. It keeps no entry, and room for one line, so no step of the relay ever waits for memory of it. A line that the sink
 /// doesn't take is lost: the relay goes on.
 ///
 /// Own.

@@ -15,7 +15,7 @@ use Rattle.ev_port.proofs.NamedLemmas.{number-side_of}
 use Rattle.mio_port.specs.declared.end.End.{End}
 use Rattle.mio_port.specs.declared.turn.Turn.{Turn}
 use Rattle.mio_port.specs.EndPlaces.{is_bulky, is_prompt, is_read_ready, is_write_ready, wants_ready}
-use Rattle.mio_port.specs.Turns.{MarkedTable, SomeMarked, TurnWent, marked_in_turn, may_read, other_end, peer_drains, takes_turns}
+use Rattle.mio_port.specs.ReadTurns.{MarkedTable, SomeMarked, TurnWent, marked_in_turn, is_read_now, other_end, peer_drains, takes_turns}
 use Rattle.mio_port.proofs.TableMarkLemmas.{ready-parts}
 use Rattle.mio_port.proofs.TurnLemmas.{turn-takes}
 
@@ -87,8 +87,9 @@ module _ (t : WantsValue) (ends : List (Option End)) where
   ready-row : (n : ℕ) → wants_ready ends (row t n) ≡ ((t.reads n && readable n) || (t.writes n && writable n))
   ready-row n = ap (λ m. (t.reads n && readable m) || (t.writes n && writable m)) (number-side_of n)
 
-  mark-row : (who n : ℕ) → is_marked (marked_in_turn t ends who (row t n)) ≡ ((t.reads n && may_read t ends who n) || (t.writes n && writable n))
-  mark-row who n = ap (λ m. (t.reads n && may_read t ends who m) || (t.writes n && writable m)) (number-side_of n)
+  mark-row : (who n : ℕ) → is_marked (marked_in_turn t ends who (row t n))
+      ≡ ((t.reads n && is_read_now t ends who n) || (t.writes n && writable n))
+  mark-row who n = ap (λ m. (t.reads n && is_read_now t ends who m) || (t.writes n && writable m)) (number-side_of n)
 
   reads_within : (n : ℕ) → t.reads n ≡ true → n < 2 * t.links
   reads_within n h = elim (cases_lt n (2 * t.links)) [
@@ -108,17 +109,19 @@ module _ (t : WantsValue) (ends : List (Option End)) where
   both : (a b : Bool) → a ≡ true → b ≡ true → (a && b) ≡ true
   both a b p q = (λ i. p i && q i)
 
-  read-listed : (who n : ℕ) → t.reads n ≡ true → may_read t ends who n ≡ true → 0 < length (marks who)
+  read-listed : (who n : ℕ) → t.reads n ≡ true → is_read_now t ends who n ≡ true → 0 < length (marks who)
   read-listed who n wanted may =
       listed (marked_in_turn t ends who) (named t) (any-at (λ w. is_marked (marked_in_turn t ends who w)) t.reads t.writes n (2 * t.links)
       (reads_within n wanted) (or_left (t.reads n) (t.writes n) wanted)
-      (mark-row who n ∙ or_left (t.reads n && may_read t ends who n) (t.writes n && writable n) (both (t.reads n) (may_read t ends who n) wanted may)))
+      (mark-row who n ∙ or_left (t.reads n && is_read_now t ends who n) (t.writes n && writable n)
+      (both (t.reads n) (is_read_now t ends who n) wanted may)))
 
   write-listed : (who n : ℕ) → t.writes n ≡ true → writable n ≡ true → 0 < length (marks who)
   write-listed who n wanted can =
       listed (marked_in_turn t ends who) (named t) (any-at (λ w. is_marked (marked_in_turn t ends who w)) t.reads t.writes n (2 * t.links)
       (writes_within n wanted) (or_right (t.reads n) (t.writes n) wanted)
-      (mark-row who n ∙ or_right (t.reads n && may_read t ends who n) (t.writes n && writable n) (both (t.writes n) (writable n) wanted can)))
+      (mark-row who n ∙ or_right (t.reads n && is_read_now t ends who n) (t.writes n && writable n)
+      (both (t.writes n) (writable n) wanted can)))
 
   -- whose turn it is is read, or its peer is written
   turn-listed : (who : ℕ) → takes_turns t ends who ≡ true → 0 < length (marks who)
@@ -128,7 +131,8 @@ module _ (t : WantsValue) (ends : List (Option End)) where
       elim (cases_Bool (peer_drains t ends who)) [
         | inl drains ↦ (let p = and_parts (t.writes (other_end who)) (writable (other_end who)) drains in
             write-listed who (other_end who) p.0 p.1)
-        | inr dry ↦ read-listed who who parts.0 (or_right (is_prompt (get_or ends who None)) ((who == who) && (bulky && not (peer_drains t ends who)))
+        | inr dry ↦ read-listed who who parts.0
+            (or_right (is_prompt (get_or ends who None)) ((who == who) && (bulky && not (peer_drains t ends who)))
             (λ i. eq-eqb who who refl i && (parts.1 i && not (dry i))))
       ]
 
@@ -140,7 +144,8 @@ module _ (t : WantsValue) (ends : List (Option End)) where
         let place = get_or ends n None in
         elim (or_cases (is_prompt place) (is_bulky place) (ready-parts place ∙ parts.1)) [
           | inl prompt ↦ read-listed new.who n parts.0 (or_left (is_prompt place) _ prompt)
-          | inr bulky ↦ turn-listed new.who (turn-takes (takes_turns t ends) old new n went (both (t.reads n) (is_bulky place) parts.0 bulky))
+          | inr bulky ↦ turn-listed new.who
+              (turn-takes (takes_turns t ends) old new n went (both (t.reads n) (is_bulky place) parts.0 bulky))
         ])
     | inr writes ↦ (let p = and_parts (t.writes n) (writable n) writes in write-listed new.who n p.0 p.1)
   ]
@@ -157,5 +162,6 @@ some-marked ends turn now_turn old new polled.Failed h = tt
 pub ready-marked : (ends : List (Option End)) (turn now_turn : Turn) (old new : WantsValue) (answer : Polled)
     → TurnWent (takes_turns old ends) turn now_turn → new.list ≡ filter is_marked (map (marked_in_turn old ends now_turn.who) (named old))
     → SomeMarked ends old new answer
-ready-marked ends turn now_turn old new (polled.Ready accept) went is = some-marked ends turn now_turn old new (polled.Ready accept) (went, is)
+ready-marked ends turn now_turn old new (polled.Ready accept) went is =
+    some-marked ends turn now_turn old new (polled.Ready accept) (went, is)
 ready-marked ends turn now_turn old new polled.Failed went is = tt

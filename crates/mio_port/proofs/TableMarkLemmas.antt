@@ -19,7 +19,7 @@ use Rattle.number_set.specs.Numbers.{NumberSetValue}
 use Rattle.mio_port.specs.declared.end.End.{End}
 use Rattle.mio_port.specs.declared.turn.Turn.{Turn}
 use Rattle.mio_port.specs.EndPlaces.{is_bulky, is_prompt, is_read_ready, is_write_ready, can_write, wants_ready, unmarked}
-use Rattle.mio_port.specs.Turns.{MarkedTable, in_turn, marked_in_turn, marked_with, may_read, other_end, peer_drains, takes_turns}
+use Rattle.mio_port.specs.ReadTurns.{MarkedTable, in_turn, marked_in_turn, marked_with, is_read_now, other_end, peer_drains, takes_turns}
 
 -- The sets and the ends
 
@@ -109,10 +109,11 @@ module _ (t : WantsValue) (ends : List (Option End)) (prompt bulky writable : Nu
   write_mark : (w : Want) → (w.write && writable.has (number w.side)) ≡ can_write ends w
   write_mark w = λ i. w.write && writes (number w.side) i
 
-  read_mark : (r : Bool) (n : ℕ) → (r && (prompt.has n || ((n == who) && may who))) ≡ (r && may_read t ends who n)
+  read_mark : (r : Bool) (n : ℕ) → (r && (prompt.has n || ((n == who) && may who))) ≡ (r && is_read_now t ends who n)
   read_mark r n =
       ap (λ p. r && (p || ((n == who) && may who))) (prompts n)
-      ∙ elsewhere r (n == who) (is_prompt (get_or ends n None)) (may who) (is_bulky (get_or ends n None) && not (peer_drains t ends n)) (at_who n)
+      ∙ elsewhere r (n == who) (is_prompt (get_or ends n None)) (may who) (is_bulky (get_or ends n None) && not (peer_drains t ends n))
+      (at_who n)
 
   pub marked-turn : may who ≡ true → marked_with prompt writable who ≡ marked_in_turn t ends who
   marked-turn h =
@@ -155,7 +156,8 @@ silent : (ws : List Want) (answer : Polled) → AllWent silent_end silent_end (p
 silent ws answer = search rules
 
 -- a port that tells nothing and vouches for nothing, and lists in a table what is ready, or nothing where it failed
-pub table-polled : (ends : List (Option End)) (turn now_turn : Turn) (old new : WantsValue) (timeout : Option ℕ) (answer : Polled) (by by' : ⊤ → Trace → Type 0)
+pub table-polled : (ends : List (Option End)) (turn now_turn : Turn) (old new : WantsValue) (timeout : Option ℕ) (answer : Polled)
+    (by by' : ⊤ → Trace → Type 0)
     → MarkedTable ends turn now_turn old new answer → ((plan : ⊤) (t : Trace) → by plan t → ⊥)
     → TablePolled old new timeout answer silent_end silent_end by by'
 table-polled ends turn now_turn old new timeout (polled.Ready accept) by by' listed none = record {

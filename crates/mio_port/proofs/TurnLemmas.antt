@@ -4,7 +4,7 @@ use Rattle.std.proofs.Common.{inl, inr}
 use Rattle.std.proofs.lemmas.Bool.{and_parts, cases_Bool, cases_eq, cases_lt, both_ways, ltb-true}
 use Rattle.number_set.specs.Next.{IsLeast}
 use Rattle.mio_port.specs.declared.turn.Turn.{Turn}
-use Rattle.mio_port.specs.Turns.{EachHasItsTurn, PassedOver, TurnBy, TurnWent}
+use Rattle.mio_port.specs.ReadTurns.{EachHasItsTurn, PassedOver, TurnBy, TurnWent}
 
 -- Whoever has the turn takes turns, where somebody does
 pub turn-takes : (takes : ℕ → Bool) (old new : Turn) (n : ℕ) → TurnWent takes old new → takes n ≡ true → takes new.who ≡ true
@@ -127,7 +127,8 @@ module _ (takes : ℕ → Bool) (old new : Turn) (sides end polls most : ℕ) (w
 
   waits-more : TurnWent takes old new → Waits sides end (polls + 1) most new
   waits-more went = elim (cases_Bool (nat_lt 0 old.left && takes old.who)) [
-    | inl is ↦ stayed (ltb-true 0 old.left (and_parts (nat_lt 0 old.left) (takes old.who) is).0) (subst (λ b. TurnBy b takes old new) is went)
+    | inl is ↦ stayed (ltb-true 0 old.left (and_parts (nat_lt 0 old.left) (takes old.who) is).0)
+        (subst (λ b. TurnBy b takes old new) is went)
     | inr is ↦ elim (subst (λ b. TurnBy b takes old new) is went) [
       | inl on ↦ elim on.0 [
         | inl least ↦ gone-on least on.1
@@ -137,7 +138,8 @@ module _ (takes : ℕ → Bool) (old new : Turn) (sides end polls most : ℕ) (w
     ]
   ]
 
-waits-all : (takes : ℕ → ℕ → Bool) (turns : ℕ → Turn) (sides end polls k : ℕ) → PassedOver takes turns sides end polls → k ≤ polls → 0 < polls
+waits-all : (takes : ℕ → ℕ → Bool) (turns : ℕ → Turn) (sides end polls k : ℕ) → PassedOver takes turns sides end polls → k ≤ polls
+    → 0 < polls
     → Waits sides end k (64 * sides + 63) (turns k)
 waits-all takes turns sides end polls zero h l some =
     waits-first sides end (turns 0) (h.few 0 end some (h.waits 0 some)) h.first h.short

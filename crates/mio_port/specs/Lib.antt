@@ -6,7 +6,7 @@ pub mod SocketCalls
 pub mod Sockets
 pub mod OneEnd
 pub mod EndPlaces
-pub mod Turns
+pub mod ReadTurns
 pub mod Acceptor
 pub mod Waiting
 pub mod Reports

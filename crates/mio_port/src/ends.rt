@@ -13,7 +13,7 @@ ghost use Rattle.mio_port.specs.PortCalls.{OthersStay};
 ghost use Rattle.mio_port.specs.OneEnd.{noticed_end, ended_end, closed_end};
 ghost use Rattle.mio_port.specs.EndPlaces.{faults_of, CountsStay, CountsAt, PlacesStay, PlaceWent, holds, is_made};
 ghost use Rattle.mio_port.specs.EndPlaces.{is_bulky, is_prompt, is_write_ready, can_read, can_write, wants_ready, marked, unmarked};
-ghost use Rattle.mio_port.specs.Turns.{marked_in_turn, marked_with, other_end, takes_turns, TurnWent};
+ghost use Rattle.mio_port.specs.ReadTurns.{marked_in_turn, marked_with, other_end, takes_turns, TurnWent};
 
 use crate::end::End;
 use crate::turn::{Turn, other_end, wants_at};

@@ -22,7 +22,7 @@ ghost use Rattle.mio_port.specs.EndPlaces.{PlacesStay, PlaceWent, wants_ready};
 ghost use Rattle.mio_port.specs.Asking.{PollLooked};
 ghost use Rattle.mio_port.specs.PollLeft.{PollLeft};
 ghost use Rattle.mio_port.specs.PortCalls.{Listens, Marked, Accepts, MadeLink, AcceptorAsked};
-ghost use Rattle.mio_port.specs.Turns.{MarkedTable, SomeMarked};
+ghost use Rattle.mio_port.specs.ReadTurns.{MarkedTable, SomeMarked};
 ghost use Rattle.mio_port.specs.PortFaults.{IsFaultless, mio_faults, vouches_nothing, waits_untold};
 
 mod linking;

@@ -1,7 +1,7 @@
 // Bulky ends are read in turns: those whose last read filled its room. What a poll marks by that stands beside the ends.
 ghost use Rattle.std.specs.Prelude.{◌≡◌, ℕ, ◌+◌, ◌^◌, ◌<◌, ◌≤◌, ◌&&◌, IfSome};
 ghost use Rattle.number_set.specs.Next.{IsNext};
-ghost use Rattle.mio_port.specs.Turns.{in_turn, other_end, EachHasItsTurn, GoesTo, TurnWent};
+ghost use Rattle.mio_port.specs.ReadTurns.{in_turn, other_end, EachHasItsTurn, GoesTo, TurnWent};
 
 use ev_port::WantTable;
 use number_set::NumberSet;

@@ -8,7 +8,7 @@ use Rattle.ev_types.specs.Sides.{number}
 use Rattle.relay_model.specs.Moments.{earliest}
 use Rattle.relay_model.specs.Plain.{all_sides, sides_from, side_at}
 use Rattle.relay_state.specs.State.{State, gauge_at}
-use Rattle.resting_links.specs.RestingValue.{moment_of, IsFirstMoment}
+use Rattle.resting_links.specs.RestingValue.{side_moment, IsFirstMoment}
 use Rattle.relay_sides.specs.Links as links
 use Rattle.relay_core.specs.RelayView.{state_with, relay_of, IsSound}
 use Rattle.relay_core.specs.RelayValue.{RelayValue}
@@ -24,17 +24,17 @@ module _ (r : Inside) (h : IsSound r) where
 
   -- what is told of a side that rests
   gain-resting : (e : SideId) → e.link < s.plain.opened → r.resting.watched.has e.link ≡ false →
-      gain_of s e ≡ option_to_list (moment_of r.resting e)
+      gain_of s e ≡ option_to_list (side_moment r.resting e)
   gain-resting e below out = gain-side s e ∙ sym (h.watching.beside e below out).gains
 
   -- it is not before the first moment
   late : (first : Option ℕ) → IsFirstMoment r.resting first → (e : SideId) → e.link < s.plain.opened →
       r.resting.watched.has e.link ≡ false → earlier first (earliest (gain_of s e)) ≡ first
   late first is e below out =
-      ap (λ xs. earlier first (earliest xs)) (gain-resting e below out) ∙ ap (earlier first) (earliest-one (moment_of r.resting e))
-      ∙ by first is (moment_of r.resting e) refl
+      ap (λ xs. earlier first (earliest xs)) (gain-resting e below out) ∙ ap (earlier first) (earliest-one (side_moment r.resting e))
+      ∙ by first is (side_moment r.resting e) refl
     where
-      by : (first : Option ℕ) → IsFirstMoment r.resting first → (m : Option ℕ) → moment_of r.resting e ≡ m → earlier first m ≡ first
+      by : (first : Option ℕ) → IsFirstMoment r.resting first → (m : Option ℕ) → side_moment r.resting e ≡ m → earlier first m ≡ first
       by first is None at = earlier-none first
       by None is (Some m) at = absurd (let wrong : None ≡ Some m = sym (is (number e)) ∙ at in cc)
       by (Some f) is (Some m) at =

@@ -120,7 +120,8 @@ counted-in f m e n from low below is = go (e.link - from) from (omega (arith, lo
 
     at : (k : ℕ) → k < n → e.link ≡ k → (u : Side) → e.side ≡ u → earlier (Some m) (total k) ≡ total k
     at k lt here In side =
-        let mine : earliest (f (in_side k)) ≡ Some m = ap (λ z. earliest (f z)) (λ i. record { link = sym here i; side = sym side i }) ∙ own in
+        let mine : earliest (f (in_side k)) ≡ Some m =
+        ap (λ z. earliest (f z)) (λ i. record { link = sym here i; side = sym side i }) ∙ own in
         let rest = earlier (earliest (f (out_side k))) (total (k + 1)) in
         let sum : total k ≡ earlier (Some m) rest = both k lt ∙ ap (λ o. earlier o rest) mine in
         ap (earlier (Some m)) sum ∙ again (Some m) rest ∙ sym sum

@@ -37,7 +37,7 @@ use Rattle.relay_core.specs.RelayView.{IsSound, IsSoundSide}
 use Rattle.relay_core.specs.declared.ctl.Ctl.TheInside.{Inside}
 use Rattle.relay_core.proofs.RelayLemmas.{still_sound}
 use Rattle.relay_sides.specs.KeptLimits.{limit_gains}
-use Rattle.resting_links.specs.RestingValue.{RestingValue, moment_of, HasPlaces, Wakes, Rests, Lengthens}
+use Rattle.resting_links.specs.RestingValue.{RestingValue, side_moment, HasPlaces, Wakes, Rests, Lengthens}
 use Rattle.relay_core.specs.Timeless.{leaves_some, left_by, is_halted, IsResting, IsWatching, IsGrouping}
 use Rattle.relay_core.proofs.GainLemmas.{IsAhead, gains-later}
 use Rattle.relay_core.proofs.HaltLemmas.{left-keeps, joined-keeps, joined_where-keeps, halted-joined, halted-none, halted-refilled}
@@ -133,7 +133,7 @@ module _ (w : RestingValue) (time : ℕ) (k : Links) (x : GroupsValue) (h : IsWa
     beside = λ e below out.
         let under = subst (λ n. e.link < n) opened below in
         subst (λ m. IsResting m time (links.side_at j e) (links.gauge_at j e) (is_halted (number e) new)) (sym (more.kept e out))
-        (each e under out (moment_of w e) (h.beside e under (more.grew e.link out)));
+        (each e under out (side_moment w e) (h.beside e under (more.grew e.link out)));
   }
 
   -- more links are watched
@@ -215,7 +215,7 @@ module _ (w : RestingValue) (time : ℕ) (k : Links) (x : GroupsValue) (h : IsWa
     places = h.places;
     absent = h.absent;
     beside = λ e below out.
-        resting-later (moment_of w e) time to (links.side_at k e) (links.gauge_at k e) (is_halted (number e) x) le (none_due (number e))
+        resting-later (side_moment w e) time to (links.side_at k e) (links.gauge_at k e) (is_halted (number e) x) le (none_due (number e))
         (h.beside e below out);
   }
 
@@ -289,7 +289,7 @@ module _ (w : RestingValue) (time : ℕ) (k : Links) (x : GroupsValue) (h : IsWa
       at m u v e p = subst (λ z. IsResting m time (links.side_at k z) (links.gauge_at k z) (is_halted (number z) x)) e p
 
       own : (e : SideId) → e.link ≡ near.link → (u : Side) → e.side ≡ u →
-          IsResting (moment_of v e) time (links.side_at k e) (links.gauge_at k e) (is_halted (number e) x)
+          IsResting (side_moment v e) time (links.side_at k e) (links.gauge_at k e) (is_halted (number e) x)
       own e here In side =
           let same : near ≡ e = (λ i. record { link = sym here i; side = (is ∙ sym side) i }) in
           let place : number e ≡ 2 * near.link = (let p = ap half side in omega (arith, here, p)) in
@@ -466,7 +466,7 @@ watching-opened w v time turn k j x y z near far a b h sides gauges room more th
       let side = ap (λ (l : Links). links.side_at l e) is ∙ old-place k.opened k.sides _ no_side e sides under in
       let gauge = ap (λ (l : Links). links.gauge_at l e) is ∙ old-place k.opened k.gauges _ no_gauge e gauges under in
       subst (λ m. IsResting m time (links.side_at j e) (links.gauge_at j e) (is_halted (number e) z)) (sym (more.kept e out))
-      (resting-parts (moment_of w e) time (sym side) (sym gauge) (p.unhalted ∙ sym two) p);
+      (resting-parts (side_moment w e) time (sym side) (sym gauge) (p.unhalted ∙ sym two) p);
 }
   where
     count : j.opened ≡ k.opened + 1

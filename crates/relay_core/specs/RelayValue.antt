@@ -1,6 +1,6 @@
 -- What contracts see of the relay: its state, for how many more links there is room, and for each side how many bytes of a read there
--- is room for; whether no side has a timeout, and which links are watched; and of the hook that runs, or ran last, whose it is, how many asks it made, whether it
--- stopped the run, the events of what it asked, and for how many of them there is room.
+-- is room for; whether no side has a timeout, and which links are watched; and of the hook that runs, or ran last, whose it is, how many
+-- asks it made, whether it stopped the run, the events of what it asked, and for how many of them there is room.
 use Rattle.std.specs.Prelude.{ℕ, Bool, List, slice_index_or}
 use Rattle.ev_types.specs.declared.side.SideId.{SideId}
 use Rattle.ev_types.specs.Sides.{number}

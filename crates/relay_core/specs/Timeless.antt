@@ -8,7 +8,7 @@ use Rattle.ev_types.specs.declared.side.SideId.{SideId}
 use Rattle.ev_types.specs.Sides.{number}
 use Rattle.next_moments.specs.Earliest.{moment_for}
 use Rattle.number_set.specs.Numbers.{NumberSetValue}
-use Rattle.resting_links.specs.RestingValue.{RestingValue, moment_of}
+use Rattle.resting_links.specs.RestingValue.{RestingValue, side_moment}
 use Rattle.rate_group.specs.GroupValue.{GroupValue, GroupsValue}
 use Rattle.rate_group.specs.Steps.{group_of}
 use Rattle.relay_model.specs.Plain.{PlainSide, Standing, is_live, side_at}
@@ -95,7 +95,7 @@ pub record IsWatching (r : RestingValue) (time : ℕ) (k : Links) (x : GroupsVal
   pub places : 2 * k.opened ≤ length r.moments
   pub absent : (i : ℕ) → 2 * k.opened ≤ i → moment_for r.moments i ≡ None
   pub beside : (e : SideId) → e.link < k.opened → r.watched.has e.link ≡ false →
-      IsResting (moment_of r e) time (links.side_at k e) (links.gauge_at k e) (is_halted (number e) x)
+      IsResting (side_moment r e) time (links.side_at k e) (links.gauge_at k e) (is_halted (number e) x)
 
 -- There is a place for each opened link, and a side of a link that is not among those with members is in no group.
 pub record IsGrouping (grouped : NumberSetValue) (opened : ℕ) (members : List (ℕ × ℕ)) : Type 0 where

@@ -35,7 +35,8 @@ impl Relay {
     pub(crate) fn next_watched(&self, from: u32) -> Option<u32>
         ensures links { MatchOption result (AreTimeless self.now.state from self.now.state.plain.opened)
             (λ link. (from ≤ link) × (link < self.now.state.plain.opened) × (link + 1 < 2 ^ 32) × AreTimeless self.now.state from link) }
-        ensures out { MatchOption result (AreOut self.now.watched from self.now.state.plain.opened) (λ link. AreOut self.now.watched from link) }
+        ensures out { MatchOption result (AreOut self.now.watched from self.now.state.plain.opened)
+            (λ link. AreOut self.now.watched from link) }
     {
         let link = self.ctl.resting.watched().next(from as usize)?;
         if link < self.ctl.sides.opened() as usize {
@@ -106,7 +107,8 @@ impl Ctl {
     /// When a bucket of a live side that holds nothing gains again.
     pub(crate) fn gains_at(&self, side: SideId) -> Option<u64>
         requires { side.link < self.now.state.plain.opened }
-        ensures { option_to_list result ≡ side_gains self.now.state.plain.time (side_at self.now.state.plain side) (gauge_at self.now.state side) }
+        ensures { option_to_list result ≡ side_gains self.now.state.plain.time (side_at self.now.state.plain side)
+            (gauge_at self.now.state side) }
     {
         if !self.sides.is_live(side) {
             return None;

@@ -195,7 +195,8 @@ leaves-begun z s ms =
     let at_time : State = with_plain (timers_taken s.settings p) refilled in
     let same = taken-rest s.settings (record p { timers = filter (λ x. nat_lt p.time x.deadline) p.timers })
     (filter (λ x. nat_le x.deadline p.time) p.timers) in
-    let first : Leaves z s at_time = leaves-sides z s at_time (record { settings = refl; flows = same.flows; lanes = refl; gauges = refl }) same.sides in
+    let first : Leaves z s at_time = leaves-sides z s at_time
+    (record { settings = refl; flows = same.flows; lanes = refl; gauges = refl }) same.sides in
     leaves-then z first
     (leaves-fold z side_timed (λ x e. leaves-fold z (timed e) (λ y d. leaves-timed z e y d) x both_ways) at_time (all_sides at_time.plain))
 

@@ -137,7 +137,8 @@ by_lane k s e l other = record {
 }
 
 -- the buckets of a side of another link
-pub by_gauge : (k : ℕ) (s : State) (e : SideId) (x : Gauge) → k ≢ e.link → SameLink k s (record s { gauges = slice_set s.gauges (number e) x })
+pub by_gauge : (k : ℕ) (s : State) (e : SideId) (x : Gauge) → k ≢ e.link
+    → SameLink k s (record s { gauges = slice_set s.gauges (number e) x })
 by_gauge k s e x other = record {
   settings = refl;
   time = refl;

@@ -31,7 +31,8 @@ at_most-and (Some zero) n = let none : min 0 n ≡ 0 = omega arith in ap (nat_le
 at_most-and (Some (suc m)) n = at_most-some (Some (suc m)) n refl
 
 -- a room that is open or not, which is cut to what is left
-room-some : (b : Bool) (o : Option ℕ) (n : ℕ) → leaves_some o ≡ true → nat_le 1 (if b then at_most o n else 0) ≡ nat_le 1 (if b then n else 0)
+room-some : (b : Bool) (o : Option ℕ) (n : ℕ) → leaves_some o ≡ true
+    → nat_le 1 (if b then at_most o n else 0) ≡ nat_le 1 (if b then n else 0)
 room-some true o n h = at_most-some o n h
 room-some false o n h = refl
 

@@ -51,7 +51,8 @@ IsSettled s k = All (IsUncalled s) (steps_of k)
 -- What a side would want if its group didn't keep it from moving bytes.
 abbrev pub would_want : State → SideId → Dir → Bool
 would_want s e dir.Read =
-    nat_le 1 (if may_read s.plain e then at_most (allowance s e dir.Read) (min most_at_once (read_mark s.plain e - input_length s e)) else 0)
+    nat_le 1 (if may_read s.plain e then at_most (allowance s e dir.Read)
+    (min most_at_once (read_mark s.plain e - input_length s e)) else 0)
 would_want s e dir.Write =
     nat_le 1 (if may_write s.plain e then at_most (allowance s e dir.Write) (min most_at_once (length (waiting_for s e))) else 0)
     || (is_connecting s.plain e && not (side_at s.plain e).failed)

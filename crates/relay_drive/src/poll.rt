@@ -55,8 +55,8 @@ fn lengthen(relay: &Relay, wants: &mut WantTable) -> Result<(), DriveFault>
     Ok(())
 }
 
-/// The table says what the sides want. Only the links are looked at of which it may not be right. One whose sides a group may keep from what
-/// they would want is looked at again.
+/// The table says what the sides want. Only the links are looked at of which it may not be right. One whose sides a group may keep from
+/// what they would want is looked at again.
 fn name_wants(relay: &Relay, agenda: &mut Agenda, wants: &mut WantTable) -> Result<(), DriveFault>
     requires named { IsNamed agenda.old wants.old relay.now.state }
     requires few { CountsAreFew relay.now.state }

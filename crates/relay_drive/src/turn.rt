@@ -54,8 +54,8 @@ fn read_clock<P: Port, S: Scribe>(
     Ok(())
 }
 
-/// Reads the port's clock once. Every link is to be looked at then at which a side has a timeout, its group may keep it from moving bytes, or
-/// what its limit leaves it may have changed.
+/// Reads the port's clock once. Every link is to be looked at then at which a side has a timeout, its group may keep it from moving
+/// bytes, or what its limit leaves it may have changed.
 fn clock<P: Port, S: Scribe>(
     run: &mut Run,
     agenda: &mut Agenda,

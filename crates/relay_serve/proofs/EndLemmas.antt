@@ -243,8 +243,13 @@ module _ (route : Route) (hooks : List SideId) (old new : Seen) (failed : Bool) 
 
 pub start-failed : (route : Route) (hooks : List SideId) (old new : Seen) → Begun route old new true →
     RanTo route hooks status.OpenFault old new (new_state (settings_on route hooks))
-start-failed route hooks old new b =
-    ([], (inr (refl, only-started route hooks old new true b TurnAnswer.Went refl (λ some. absurd (some refl))), b.heard.listener.fault refl))
+start-failed route hooks old new b = (
+  [],
+  (
+    inr (refl, only-started route hooks old new true b TurnAnswer.Went refl (λ some. absurd (some refl))),
+    b.heard.listener.fault refl,
+  ),
+)
 
 pub start-lacked : (route : Route) (hooks : List SideId) (old new : Seen) → Begun route old new false →
     RanTo route hooks status.Memory old new (new_state (settings_on route hooks))

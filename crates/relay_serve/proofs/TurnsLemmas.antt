@@ -193,7 +193,8 @@ cut-closed fault.Spent g began now t = tt
 
 -- a turn was refused as too much was counted
 pub cut-spent : (g : Settings) (old mid new : Seen) (d : DriveValue) (s : State) (f : DriveFault) →
-    (w : TurnsWent g TurnAnswer.Went StandsBetween false old mid d.state) → DriveStands w.added d → is_worn d ≡ true → new ≡ mid → s ≡ d.state →
+    (w : TurnsWent g TurnAnswer.Went StandsBetween false old mid d.state) → DriveStands w.added d → is_worn d ≡ true → new ≡ mid
+    → s ≡ d.state →
     f ≡ fault.Spent → TurnsCut f g old new s
 cut-spent g old mid new d s f w k worn seen_is s_is f_is =
     let base : TurnsCut fault.Spent g old mid d.state = (w, (d, k, w.after, worn)) in

@@ -129,10 +129,10 @@ fn relay_seated<R: Wait, P: Port, S: Scribe, K: Sink>(
 }
 
 /// Relays over a port: starts it once, makes turns until so many links were opened as the settings allow and none is open, and writes
-/// the report. Once all links were opened it says to the port that no more will be asked for. A hook in place i of the list is that of the side with the number i: side In of link 0 has 0, side Out of it 1, and so on.
-/// One that stops the run, a failed start, a failed poll or accept, and counts that came to 2^62 end the run, and the report is written
-/// all the same; want of memory ends it with nothing written. It may never return. Between two turns constant cost until all
-/// links were opened; before the first, linear in the hooks.
+/// the report. Once all links were opened it says to the port that no more will be asked for. A hook in place i of the list is that of
+/// the side with the number i: side In of link 0 has 0, side Out of it 1, and so on. One that stops the run, a failed start, a failed
+/// poll or accept, and counts that came to 2^62 end the run, and the report is written all the same; want of memory ends it with nothing
+/// written. It may never return. Between two turns constant cost until all links were opened; before the first, linear in the hooks.
 ///
 /// Own.
 pub fn relay<R: Wait, P: Port, S: Scribe, K: Sink>(

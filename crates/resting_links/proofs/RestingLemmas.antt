@@ -8,7 +8,7 @@ use Rattle.ev_types.specs.declared.side.Side.TheVariants.{In, Out}
 use Rattle.ev_types.specs.declared.side.SideId.{SideId}
 use Rattle.ev_types.specs.Sides.{number, half}
 use Rattle.next_moments.specs.Earliest.{moment_for}
-use Rattle.resting_links.specs.RestingValue.{RestingValue, moment_of, Wakes}
+use Rattle.resting_links.specs.RestingValue.{RestingValue, side_moment, Wakes}
 
 pub wakes-none : (r : RestingValue) → Wakes r r
 wakes-none r = record { len = refl; places = refl; grew = λ n out. out; kept = λ e out. refl; none = λ i is. is }
@@ -87,7 +87,8 @@ woken a b c i same len taken p there = record {
   places = p.places ∙ len;
   grew = λ n out. sym (ap (λ s. s.has n) same) ∙ p.grew n out;
   kept = λ e out.
-      let apart : number e ≢ i = (λ is. absurd (let wrong : true ≡ false = sym there ∙ ap c.watched.has (sym (link-of e i is)) ∙ out in cc)) in
+      let apart : number e ≢ i = (λ is. absurd (let wrong : true ≡ false = sym there ∙ ap c.watched.has (sym (link-of e i is)) ∙
+      out in cc)) in
       p.kept e out ∙ taken (number e) ∙ other (number e) apart;
   none = λ n is. p.none n (taken n ∙ gone n is);
 }

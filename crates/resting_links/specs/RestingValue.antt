@@ -11,8 +11,8 @@ pub record RestingValue : Type 0 where
   pub moments : List (Option ℕ)
 
 -- when the link of this side is to be watched again, or None where no moment is known
-abbrev pub moment_of : RestingValue → SideId → Option ℕ
-moment_of r e = moment_for r.moments (number e)
+abbrev pub side_moment : RestingValue → SideId → Option ℕ
+side_moment r e = moment_for r.moments (number e)
 
 -- there are places for the first links, so many
 abbrev pub HasPlaces : ℕ → RestingValue → Type 0
@@ -23,7 +23,7 @@ pub record Wakes (old new : RestingValue) : Type 0 where
   pub len : new.watched.len ≡ old.watched.len
   pub places : length new.moments ≡ length old.moments
   pub grew : (n : ℕ) → new.watched.has n ≡ false → old.watched.has n ≡ false
-  pub kept : (e : SideId) → new.watched.has e.link ≡ false → moment_of new e ≡ moment_of old e
+  pub kept : (e : SideId) → new.watched.has e.link ≡ false → side_moment new e ≡ side_moment old e
   pub none : (i : ℕ) → moment_for old.moments i ≡ None → moment_for new.moments i ≡ None
 
 -- One link is watched no more, and its sides have these moments. All else stays.
@@ -46,7 +46,7 @@ pub record Lengthens (old new : RestingValue) : Type 0 where
 pub record IsLeastMoment (r : RestingValue) (moment : ℕ) : Type 0 where
   pub of : SideId
   pub unwatched : r.watched.has of.link ≡ false
-  pub stands : moment_of r of ≡ Some moment
+  pub stands : side_moment r of ≡ Some moment
   pub none_earlier : (i m : ℕ) → moment_for r.moments i ≡ Some m → moment ≤ m
 
 -- the least moment, or None where no number has one

@@ -28,11 +28,11 @@ impl Model for RestingLinks {
 
     ghost coded = { Prim.hlevel (codes, number_set_code) };
 
-    ghost use Rattle.resting_links.specs.RestingView.{resting_of, IsSound};
+    ghost use Rattle.resting_links.specs.RestingView.{resting_of, KeepsMoments};
 
     ghost view = { resting_of };
 
-    ghost invariant = { λ r. IsSound (resting_of r) };
+    ghost invariant = { λ r. KeepsMoments (resting_of r) };
 }
 
 impl RestingLinks {

@@ -5,7 +5,7 @@ ghost use Rattle.ev_types.specs.declared.filter.Mode.TheVariants as mode_of;
 ghost use Rattle.filter_model.specs.FilterStep.{begun, stepped};
 ghost use Rattle.stream_filters.specs.House.{MayHaveUsed, definition, reach};
 ghost use Rattle.stream_filters.specs.StepAnswers.{most_by_step, Answers, WasMade, AnswersInPlace, is_last, is_spent, says_spent};
-ghost use Rattle.stream_filters.specs.StreamSteps.{Steps};
+ghost use Rattle.stream_filters.specs.StreamSteps.{StepsBy};
 
 use crate::fault::FilterFault;
 use crate::knowledge::Knowledge;
@@ -84,7 +84,8 @@ impl AnyFilter {
     /// Own.
     pub fn make(&mut self, src: &[u8], dst: &mut Vec<u8>, limit: usize, over: bool) -> usize
         requires counted { self.old.used + length src.now < 2 ^ 64 }
-        requires room { length dst.old.items + most_by_step self.old.kind (length src.now) (length dst.old.items) limit ≤ vec_capacity dst.old }
+        requires room { length dst.old.items + most_by_step self.old.kind (length src.now)
+            (length dst.old.items) limit ≤ vec_capacity dst.old }
         ensures used { result ≡ (stepped self.old over limit (length dst.old.items) src.now).used }
         ensures made { WasMade (stepped self.old over limit (length dst.old.items) src.now) self.new dst.old.items dst.new.items }
         ensures capacity { vec_capacity dst.old ≤ vec_capacity dst.new }
@@ -143,9 +144,10 @@ impl StreamFilter for AnyFilter {
         mode: Mode,
     ) -> Result<Step, FilterFault>
         requires open { self.old.finished ≡ true → (src.now ≡ []) × (mode ≡ mode_of.Finished) }
-        ensures answers { Answers result (stepped self.old (is_last mode) limit (length dst.old.items) src.now) self.old self.new dst.old.items dst.new.items }
+        ensures answers { Answers result
+            (stepped self.old (is_last mode) limit (length dst.old.items) src.now) self.old self.new dst.old.items dst.new.items }
         ensures spent { says_spent result ≡ is_spent self.old (length src.now) }
-        ensures steps { Steps definition reach MayHaveUsed mode limit src.now result self.old self.new dst.old.items dst.new.items }
+        ensures steps { StepsBy definition reach MayHaveUsed mode limit src.now result self.old self.new dst.old.items dst.new.items }
     {
         step_by(self.kind, &mut self.known, src, dst, limit, mode)
     }

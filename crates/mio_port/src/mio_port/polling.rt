@@ -11,7 +11,7 @@ ghost use Rattle.mio_port.specs.Asking.{Looked, PollLooked};
 ghost use Rattle.mio_port.specs.PollLeft.{PollLeft};
 ghost use Rattle.mio_port.specs.PortCalls.{Marked, Accepts};
 ghost use Rattle.mio_port.specs.PortFaults.{mio_faults};
-ghost use Rattle.mio_port.specs.Turns.{MarkedTable, SomeMarked};
+ghost use Rattle.mio_port.specs.ReadTurns.{MarkedTable, SomeMarked};
 
 use super::MioPort;
 use crate::ends::unmark;

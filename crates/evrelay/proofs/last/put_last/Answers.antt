@@ -7,6 +7,7 @@ loop-at-init c =
     let items = c.fill.new.entries.items in
     let long : length items ≡ 64 = omega (arith, c.fill.ensures.len) in
     record {
-      filled = subst (λ links. FilledSoFar c.args.wants.now (2 * links) 64 items) (sym c.links.ensures) (fill-begin c.args.wants.now items long);
+      filled = subst (λ links. FilledSoFar c.args.wants.now (2 * links) 64 items) (sym c.links.ensures)
+          (fill-begin c.args.wants.now items long);
       room = c.fill.ensures.room;
     }

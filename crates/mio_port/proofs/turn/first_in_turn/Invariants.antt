@@ -1,5 +1,5 @@
 use Rattle.std.proofs.Common.{◌≡◌, ◌≤◌, ◌<◌, ◌-◌, ℕ, false}
-use Rattle.mio_port.specs.Turns.{in_turn}
+use Rattle.mio_port.specs.ReadTurns.{in_turn}
 use Rattle.mio_port.proofs.turn.first_in_turn.Given as goal
 
 -- none was passed that takes turns

@@ -12,20 +12,24 @@ pub returns-in_err-all-clause-went : goal.returns-in_err-all-clause-went
 returns-in_err-all-clause-went c = went_none _
 
 pub returns-in_err-reserve-clause-went : goal.returns-in_err-reserve-clause-went
-returns-in_err-reserve-clause-went c = rw (← c.self.view_is) (went_due (world_of c.self.inside) _ _ _ c.reserve.ensures.pending c.reserve.ensures.batch)
+returns-in_err-reserve-clause-went c = rw (← c.self.view_is)
+    (went_due (world_of c.self.inside) _ _ _ c.reserve.ensures.pending c.reserve.ensures.batch)
 
 pub returns-in_err-reserve-2-clause-went : goal.returns-in_err-reserve-2-clause-went
 returns-in_err-reserve-2-clause-went c =
-    rw (← c.self.view_is, c.reserve-2.ensures.items) (went_due (world_of c.self.inside) _ _ _ c.reserve.ensures.pending c.reserve.ensures.batch)
+    rw (← c.self.view_is, c.reserve-2.ensures.items)
+    (went_due (world_of c.self.inside) _ _ _ c.reserve.ensures.pending c.reserve.ensures.batch)
 
 pub invariant_of-self-2 : goal.invariant_of-self-2
 invariant_of-self-2 c =
     let ss = c.self.inside.slots.items in
     let next = c.reserve.new.self in
-    subst (λ (z : List Slot). Holds z next.pending next.spare c.args.more (vec_capacity c.reserve-2.new.self)) (sym c.reserve-2.ensures.items)
+    subst (λ (z : List Slot). Holds z next.pending next.spare c.args.more (vec_capacity c.reserve-2.new.self))
+    (sym c.reserve-2.ensures.items)
     (holds-room ss c.self.inside.due.pending next.pending c.self.inside.due.spare next.spare c.args.more (vec_capacity c.reserve-2.new.self)
     c.self.invariant (search rules) (search rules))
 
 pub returns-clause-went : goal.returns-clause-went
 returns-clause-went c =
-    rw (← c.self.view_is, c.reserve-2.ensures.items) (went_due (world_of c.self.inside) _ _ _ c.reserve.ensures.pending c.reserve.ensures.batch)
+    rw (← c.self.view_is, c.reserve-2.ensures.items)
+    (went_due (world_of c.self.inside) _ _ _ c.reserve.ensures.pending c.reserve.ensures.batch)

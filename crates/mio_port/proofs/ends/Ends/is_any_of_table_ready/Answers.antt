@@ -9,7 +9,8 @@ returns-then-is_any_ready c =
     let ends = c.args.self.now in
     let wants = named c.args.wants.now in
     let same = any-ends ends.ends.items ends.prompt ends.bulky ends.writable ends.prompts ends.bulks ends.writes wants in
-    c.if-is_any_ready.true ∙ ap (λ b. b || list_any (is_ready_by ends.bulky ends.writable) wants) (sym c.if-is_any_ready.true ∙ c.is_any_ready.ensures)
+    c.if-is_any_ready.true ∙ ap (λ b. b || list_any (is_ready_by ends.bulky ends.writable) wants) (sym c.if-is_any_ready.true ∙
+    c.is_any_ready.ensures)
     ∙ same
 
 pub returns-else-is_any_ready : goal.returns-else-is_any_ready

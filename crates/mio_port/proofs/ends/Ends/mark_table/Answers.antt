@@ -8,7 +8,8 @@ pub returns-then-is_read_first-clause-list : goal.returns-then-is_read_first-cla
 returns-then-is_read_first-clause-list c =
     let ends = c.args.self.now in
     let wants = c.args.wants.now in
-    let same = marked-turn wants ends.ends.items ends.prompt ends.bulky ends.writable c.next-turn.result.who ends.prompts ends.bulks ends.writes
+    let same = marked-turn wants ends.ends.items ends.prompt ends.bulky ends.writable c.next-turn.result.who ends.prompts ends.bulks
+    ends.writes
     (sym c.is_read_first.ensures ∙ c.if-is_read_first.true) in
     c.mark_with.ensures.list ∙ ap (λ mark. filter is_marked (map mark (named wants))) same
 
@@ -16,6 +17,7 @@ pub returns-else-is_read_first-clause-list : goal.returns-else-is_read_first-cla
 returns-else-is_read_first-clause-list c =
     let ends = c.args.self.now in
     let wants = c.args.wants.now in
-    let same = marked-left wants ends.ends.items ends.prompt ends.bulky ends.writable c.next-turn.result.who ends.prompts ends.bulks ends.writes
+    let same = marked-left wants ends.ends.items ends.prompt ends.bulky ends.writable c.next-turn.result.who ends.prompts ends.bulks
+    ends.writes
     (sym c.is_read_first.ensures ∙ c.if-is_read_first.false) in
     c.mark_ready.ensures.list ∙ ap (λ mark. filter is_marked (map mark (named wants))) same

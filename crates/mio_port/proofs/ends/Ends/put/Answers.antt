@@ -25,7 +25,8 @@ pub invariant_of-self-clause-writes : goal.invariant_of-self-clause-writes
 invariant_of-self-clause-writes c =
     let ends = c.args.self.now.ends.items in
     let near = c.number-near.result in
-    let one = put-one is_write_ready ends c.deref.result.now near (Some c.args.inside) c.args.self.now.writable.has c.keep_up.new.writable.has
+    let one = put-one is_write_ready ends c.deref.result.now near
+    (Some c.args.inside) c.args.self.now.writable.has c.keep_up.new.writable.has
     c.deref.ensures.value c.args.self.now.writes c.keep_up.ensures.writes in
     put-one is_write_ready (set ends near (Some c.args.inside)) c.deref-2.result.now c.number-far.result (Some c.args.outside)
     c.keep_up.new.writable.has c.keep_up-2.new.writable.has c.deref-2.ensures.value one c.keep_up-2.ensures.writes

@@ -2,7 +2,7 @@ use Rattle.std.proofs.Common.{Option, subst, sym}
 use Rattle.std.specs.declared.alloc.Global.{Global}
 use Rattle.std.specs.declared.vec.Vec.{Vec}
 use Rattle.mio_port.specs.declared.end.End.{End}
-use Rattle.mio_port.specs.Turns.{SomeMarked}
+use Rattle.mio_port.specs.ReadTurns.{SomeMarked}
 use Rattle.mio_port.proofs.SomeMarkedLemmas.{ready-marked}
 use Rattle.mio_port.proofs.mio_port.MioPort.table_ready_for.Goals as goal
 

@@ -23,7 +23,8 @@ invariant_of-self-inside c =
       grouped = h.grouped;
       watching = watching-fewer r.resting r.time r.sides.links r.groups.value h.watching c.rest.new.self near c.gains_at-gain.result
           c.gains_at-far_gain.result refl
-          (subst (λ (z : RelayValue). c.args.link < z.state.plain.opened) (sym (is ∙ c.forget_members.ensures ∙ c.self.view_is)) c.requires) c.rest.ensures
+          (subst (λ (z : RelayValue). c.args.link < z.state.plain.opened)
+          (sym (is ∙ c.forget_members.ensures ∙ c.self.view_is)) c.requires) c.rest.ensures
           (resting_by r h near c.gains_at-gain.result v is (c.if-is_timeless.ensures.still refl) (c.if-is_timeless.ensures.unhalted refl)
           c.gains_at-gain.ensures)
           (resting_by r h (peer near) c.gains_at-far_gain.result v is

@@ -39,5 +39,6 @@ returns c =
     let least = c.loop-link.least in
     sym (earlier-none least)
     ∙ ap (λ ms. earlier least (wait_until s.plain.time ms))
-    (sym (skips-all (expiries s) s.plain.opened c.loop-link.from inv.within (λ e a x. expiries-none s e (c.in_default.ensures.links e a x))))
+    (sym (skips-all (expiries s) s.plain.opened c.loop-link.from inv.within
+    (λ e a x. expiries-none s e (c.in_default.ensures.links e a x))))
     ∙ inv.rest

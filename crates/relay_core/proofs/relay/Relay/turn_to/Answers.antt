@@ -3,7 +3,7 @@ use Rattle.relay_core.specs.declared.relay.Relay.TheInside.{Inside}
 use Rattle.relay_core.specs.RelayValue.{RelayValue}
 use Rattle.relay_core.proofs.RelayLemmas.{no_rates}
 use Rattle.ev_types.specs.Sides.{number}
-use Rattle.resting_links.specs.RestingValue.{moment_of}
+use Rattle.resting_links.specs.RestingValue.{side_moment}
 use Rattle.relay_sides.specs.Links as links
 use Rattle.relay_core.specs.Timeless.{AreLeftAlikeBeside}
 use Rattle.relay_core.proofs.GainLemmas.{IsAhead, left-alike}
@@ -50,6 +50,7 @@ returns-clause-alike c =
     (ap (λ (z : Inside). z.ctl) c.self-inside.view_is ∙ c.self.view_is)
     (λ e below out live d.
     let p = h.watching.beside e below (c.wake.ensures.more.grew e.link out) in
-    let ahead : IsAhead (moment_of r.resting e) to =
+    let ahead : IsAhead (side_moment r.resting e) to =
     subst (λ m. IsAhead m to) (c.wake.ensures.more.kept e out) (c.wake.ensures.none_due (number e)) in
-    left-alike (moment_of r.resting e) r.time to (links.side_at r.sides.links e) (links.gauge_at r.sides.links e) later ahead p.gains live d)
+    left-alike (side_moment r.resting e) r.time to (links.side_at r.sides.links e)
+    (links.gauge_at r.sides.links e) later ahead p.gains live d)

@@ -12,7 +12,8 @@ returns-clause-beside c =
     let r = c.self-inside.inside.0.0 in
     let h = c.self-inside.invariant in
     subst (λ (set : NumberSetValue). AreTimelessBeside set c.args.self.now.state) (sym c.watched.ensures)
-    (subst (λ (v : RelayValue). AreTimelessBeside r.resting.watched v.state) (ap (λ (z : Inside). z.ctl) c.self-inside.view_is ∙ c.self.view_is)
+    (subst (λ (v : RelayValue). AreTimelessBeside r.resting.watched v.state) (ap (λ (z : Inside). z.ctl) c.self-inside.view_is ∙
+    c.self.view_is)
     (λ e below out.
     let p = h.watching.beside e below out in
     record {

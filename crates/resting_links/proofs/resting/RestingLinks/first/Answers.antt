@@ -1,5 +1,5 @@
 use Rattle.std.proofs.Common.{◌≡◌, ◌∙◌, Bool, true, false, None, Some, ap, sym, subst, refl}
-use Rattle.resting_links.specs.RestingValue.{RestingValue, IsLeastMoment, moment_of}
+use Rattle.resting_links.specs.RestingValue.{RestingValue, IsLeastMoment, side_moment}
 use Rattle.resting_links.specs.RestingView.{resting_of}
 use Rattle.next_moments.specs.Earliest.{moment_for}
 use Rattle.resting_links.proofs.RestingLemmas.{numbered}
@@ -10,8 +10,9 @@ returns c =
     let r : RestingValue = resting_of c.self.inside in
     let found = c.in_ok-moment.ensures.first in
     let side = numbered c.in_ok-moment.field-0-0 in
-    let stands : moment_of r side.of ≡ Some c.in_ok-moment.moment = ap (moment_for r.moments) side.at ∙ found.stands in
-    let unwatched : (b : Bool) → r.watched.has side.of.link ≡ b → b ≡ false = λ b is. elim b as (λ b. r.watched.has side.of.link ≡ b → b ≡ false) [
+    let stands : side_moment r side.of ≡ Some c.in_ok-moment.moment = ap (moment_for r.moments) side.at ∙ found.stands in
+    let unwatched : (b : Bool) → r.watched.has side.of.link ≡ b → b ≡ false =
+    λ b is. elim b as (λ b. r.watched.has side.of.link ≡ b → b ≡ false) [
       | true ↦ λ is. absurd (let wrong : None ≡ Some c.in_ok-moment.moment = sym (c.self.invariant.none side.of is) ∙ stands in cc)
       | false ↦ λ is. refl
     ] is in

@@ -50,8 +50,8 @@ abbrev pub peer_drains : WantsValue → List (Option End) → ℕ → Bool
 peer_drains t ends n = t.writes (other_end n) && is_write_ready (slice_index_or ends (other_end n) None)
 
 -- A ready end may be read if it isn't bulky, or if the turn is its own and nothing can be written to its peer first.
-abbrev pub may_read : WantsValue → List (Option End) → ℕ → ℕ → Bool
-may_read t ends who n =
+abbrev pub is_read_now : WantsValue → List (Option End) → ℕ → ℕ → Bool
+is_read_now t ends who n =
     is_prompt (slice_index_or ends n None)
     || ((n == who) && (is_bulky (slice_index_or ends n None) && not (peer_drains t ends n)))
 
@@ -64,7 +64,7 @@ marked_with readable writable who w = record w {
 
 abbrev pub marked_in_turn : WantsValue → List (Option End) → ℕ → Want → Want
 marked_in_turn t ends who w = record w {
-  can_read = w.read && may_read t ends who (number w.side);
+  can_read = w.read && is_read_now t ends who (number w.side);
   can_write = can_write ends w;
 }
 
