@@ -35,7 +35,8 @@ pub fn process_input(
     requires live { under.old.live ≡ true }
     requires over_live { over.old.live ≡ true }
     requires open { filter.old.finished ≡ true → (under.old.input.bytes ≡ []) × (mode ≡ mode_of.Finished) }
-    ensures passes { Passes dir_of.Read limit mode result (record { from = under.old; to = over.old; filter = filter.old }) (record { from = under.new; to = over.new; filter = filter.new }) }
+    ensures passes { Passes dir_of.Read limit mode result (record { from = under.old; to = over.old; filter = filter.old })
+        (record { from = under.new; to = over.new; filter = filter.new }) }
     ensures spent { says_spent result ≡ is_spent filter.old (length under.old.input.bytes) }
 {
     pass(under, over, Dir::Read, filter, limit, mode)
@@ -56,7 +57,8 @@ pub fn process_output(
     requires live { under.old.live ≡ true }
     requires over_live { over.old.live ≡ true }
     requires open { filter.old.finished ≡ true → (over.old.output.bytes ≡ []) × (mode ≡ mode_of.Finished) }
-    ensures passes { Passes dir_of.Write limit mode result (record { from = over.old; to = under.old; filter = filter.old }) (record { from = over.new; to = under.new; filter = filter.new }) }
+    ensures passes { Passes dir_of.Write limit mode result (record { from = over.old; to = under.old; filter = filter.old })
+        (record { from = over.new; to = under.new; filter = filter.new }) }
     ensures spent { says_spent result ≡ is_spent filter.old (length over.old.output.bytes) }
 {
     pass(over, under, Dir::Write, filter, limit, mode)
@@ -72,7 +74,8 @@ fn pass(
     mode: Mode,
 ) -> Result<Step, PassFault>
     requires open { filter.old.finished ≡ true → ((held from.old dir).bytes ≡ []) × (mode ≡ mode_of.Finished) }
-    ensures passes { Passes dir limit mode result (record { from = from.old; to = to.old; filter = filter.old }) (record { from = from.new; to = to.new; filter = filter.new }) }
+    ensures passes { Passes dir limit mode result (record { from = from.old; to = to.old; filter = filter.old })
+        (record { from = from.new; to = to.new; filter = filter.new }) }
     ensures spent { says_spent result ≡ is_spent filter.old (length (held from.old dir).bytes) }
 {
     match filter.kind() {
@@ -92,7 +95,8 @@ fn pass_as_is(
 ) -> Result<Step, PassFault>
     requires kind { filter.old.kind ≡ kind_of.None }
     requires open { filter.old.finished ≡ true → ((held from.old dir).bytes ≡ []) × (mode ≡ mode_of.Finished) }
-    ensures passes { Passes dir limit mode result (record { from = from.old; to = to.old; filter = filter.old }) (record { from = from.new; to = to.new; filter = filter.new }) }
+    ensures passes { Passes dir limit mode result (record { from = from.old; to = to.old; filter = filter.old })
+        (record { from = from.new; to = to.new; filter = filter.new }) }
     ensures spent { says_spent result ≡ is_spent filter.old (length (held from.old dir).bytes) }
 {
     let mut next = filter.copied();
@@ -124,7 +128,8 @@ fn pass_made(
     mode: Mode,
 ) -> Result<Step, PassFault>
     requires open { filter.old.finished ≡ true → ((held from.old dir).bytes ≡ []) × (mode ≡ mode_of.Finished) }
-    ensures passes { Passes dir limit mode result (record { from = from.old; to = to.old; filter = filter.old }) (record { from = from.new; to = to.new; filter = filter.new }) }
+    ensures passes { Passes dir limit mode result (record { from = from.old; to = to.old; filter = filter.old })
+        (record { from = from.new; to = to.new; filter = filter.new }) }
     ensures spent { says_spent result ≡ is_spent filter.old (length (held from.old dir).bytes) }
 {
     let mut next = filter.copied();

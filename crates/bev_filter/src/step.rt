@@ -33,7 +33,8 @@ pub fn reserve_step(
     ensures stays { to.new ≡ with_held to.old dir (record (held to.old dir) { spare = (held to.new dir).spare }) }
     ensures spare { (held to.old dir).spare ≤ (held to.new dir).spare }
     ensures beside { vec_capacity beside.old ≤ vec_capacity beside.new }
-    ensures room { OnOk result (HasStepRoom kind count (length (held to.new dir).bytes) limit (held to.new dir).spare (vec_capacity beside.new) made) }
+    ensures room { OnOk result (HasStepRoom kind count (length (held to.new dir).bytes) limit (held to.new dir).spare
+        (vec_capacity beside.new) made) }
     ensures most { IfOk result (λ most. most ≡ most_by_step kind count (length (held to.new dir).bytes) limit) }
 {
     let held = to.len(dir);
@@ -74,7 +75,8 @@ pub fn step_reserved(
 ) -> u64
     requires counted { IsCounted dir (record { from = from.old; to = to.old; filter = filter.old }) }
     requires room { HasRoomFor dir (record { from = from.old; to = to.old; filter = filter.old }) limit (vec_capacity beside.old) made }
-    ensures crossed { Crossed dir (stepping dir (record { from = from.old; to = to.old; filter = filter.old }) limit at_end) (record { from = from.old; to = to.old; filter = filter.old }) (record { from = from.new; to = to.new; filter = filter.new }) }
+    ensures crossed { Crossed dir (stepping dir (record { from = from.old; to = to.old; filter = filter.old }) limit at_end)
+        (record { from = from.old; to = to.old; filter = filter.old }) (record { from = from.new; to = to.new; filter = filter.new }) }
     ensures made { result ≡ made + length (stepping dir (record { from = from.old; to = to.old; filter = filter.old }) limit at_end).made }
     ensures beside { vec_capacity beside.old ≤ vec_capacity beside.new }
 {
@@ -103,7 +105,8 @@ fn hand_step(
     requires kind { filter.old.kind ≡ kind_of.None }
     requires counted { IsCounted dir (record { from = from.old; to = to.old; filter = filter.old }) }
     requires room { MovesInto (length (held from.old dir).bytes) (held to.old dir) limit }
-    ensures crossed { Crossed dir (stepping dir (record { from = from.old; to = to.old; filter = filter.old }) limit at_end) (record { from = from.old; to = to.old; filter = filter.old }) (record { from = from.new; to = to.new; filter = filter.new }) }
+    ensures crossed { Crossed dir (stepping dir (record { from = from.old; to = to.old; filter = filter.old }) limit at_end)
+        (record { from = from.old; to = to.old; filter = filter.old }) (record { from = from.new; to = to.new; filter = filter.new }) }
     ensures made { result ≡ length (stepping dir (record { from = from.old; to = to.old; filter = filter.old }) limit at_end).made }
 {
     let used = filter.hand_on(all_of(from, dir), to.len(dir), limit, at_end);
@@ -122,9 +125,12 @@ fn make_step(
     beside: &mut Vec<u8>,
 ) -> usize
     requires counted { IsCounted dir (record { from = from.old; to = to.old; filter = filter.old }) }
-    requires room { most_by_step filter.old.kind (length (held from.old dir).bytes) (length (held to.old dir).bytes) limit ≤ (held to.old dir).spare }
-    requires beside { most_by_step filter.old.kind (length (held from.old dir).bytes) (length (held to.old dir).bytes) limit ≤ vec_capacity beside.old }
-    ensures crossed { Crossed dir (stepping dir (record { from = from.old; to = to.old; filter = filter.old }) limit at_end) (record { from = from.old; to = to.old; filter = filter.old }) (record { from = from.new; to = to.new; filter = filter.new }) }
+    requires room { most_by_step filter.old.kind (length (held from.old dir).bytes) (length (held to.old dir).bytes) limit ≤
+        (held to.old dir).spare }
+    requires beside { most_by_step filter.old.kind (length (held from.old dir).bytes)
+        (length (held to.old dir).bytes) limit ≤ vec_capacity beside.old }
+    ensures crossed { Crossed dir (stepping dir (record { from = from.old; to = to.old; filter = filter.old }) limit at_end)
+        (record { from = from.old; to = to.old; filter = filter.old }) (record { from = from.new; to = to.new; filter = filter.new }) }
     ensures made { result ≡ length (stepping dir (record { from = from.old; to = to.old; filter = filter.old }) limit at_end).made }
     ensures beside { vec_capacity beside.old ≤ vec_capacity beside.new }
 {

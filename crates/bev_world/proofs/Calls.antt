@@ -7,7 +7,7 @@ use Rattle.std.proofs.lemmas.Option.{none-some, same_Some}
 use Rattle.ev_types.specs.declared.memory.NoMemory.{NoMemory}
 use Rattle.ev_types.specs.declared.why.Why.{Why}
 use Rattle.deferred_cb.specs.DueCalls.{Call}
-use Rattle.bev_world.specs.Runs.{Deeds, Served, Called, Done, DoneShort, told_more, has_box, is_started}
+use Rattle.bev_world.specs.Runs.{MayDo, Served, Called, Done, DoneShort, told_more, has_box, is_started}
 use Rattle.bev_world.specs.WorldValue.{WorldValue, is_live}
 use Rattle.bev_world.specs.Went.{Went}
 
@@ -15,7 +15,7 @@ pub some-then : {A : Type 0} (b : Bool) (x y : A) → Some y ≡ then_some b x �
 some-then true x y h = (refl, same_Some y x h)
 some-then false x y h = absurd (none-some y (sym h))
 
-module _ {H : Type 0} (heard : H → Option (List Why)) (did : Deeds H) (old new : WorldValue)
+module _ {H : Type 0} (heard : H → Option (List Why)) (did : MayDo H) (old new : WorldValue)
     (serving retired serving1 serving2 retired2 : List (Option H)) (n : ℕ) (why : Why) (was box : H) where
   pub called-once : (live : Bool) (result : Result (Unit {0}) NoMemory) → slice_index_or serving n None ≡ Some was →
       Went old new → did was n why old new → OnOk result (heard box ≡ told_more (heard was) (why ∷ [])) →
@@ -45,7 +45,7 @@ module _ {H : Type 0} (heard : H → Option (List Why)) (did : Deeds H) (old new
       put false p = p ∙ one
 
 -- a call that was started, by the number that its owner has
-module _ {H : Type 0} (heard : H → Option (List Why)) (did : Deeds H) (call : Call) (s left : Served H) (n : ℕ) (same : n ≡ call.0)
+module _ {H : Type 0} (heard : H → Option (List Why)) (did : MayDo H) (call : Call) (s left : Served H) (n : ℕ) (same : n ≡ call.0)
     (live : is_live s.world call.0 ≡ true) (there : has_box s.serving n ≡ true) where
   started-there : is_started s call ≡ true
   started-there =

@@ -27,7 +27,8 @@ use Rattle.bev_world.proofs.WentLemmas.{went_set, went_then, went_raised_if}
 -- two slots were written, each in its own part of the list
 pub split-set : (xs f b : List Slot) (at under : ℕ) (l o : Slot) → xs ≡ f ++ b → length f ≡ at → under < at → at < length xs →
     slice_set f under l ++ slice_set b 0 o
-    ≡ slice_set (slice_set xs under (slice_index_or (slice_set f under l ++ slice_set b 0 o) under no_slot)) at (slice_index_or (slice_set f under l ++ slice_set b 0 o) at no_slot)
+    ≡ slice_set (slice_set xs under (slice_index_or (slice_set f under l ++ slice_set b 0 o) under no_slot)) at
+    (slice_index_or (slice_set f under l ++ slice_set b 0 o) at no_slot)
 split-set xs f b at under l o parts long below there =
     is ∙ (let x = sym lower_is in let y = sym over_is in λ i. slice_set (slice_set xs under (x i)) at (y i))
   where
@@ -65,7 +66,8 @@ pub record Stays (old new : Slot) : Type 0 where
 stays-same : (old new : Slot) → new ≡ old → Stays old new
 stays-same old new is = subst (λ s. Stays old s) (sym is) (record { kind = refl; live = refl; room = λ le. le })
 
-pub crossed-stays : (dir : Dir) (s : Stepped) (lower over l o : Slot) (after : Crossing) → Crossed dir s (slots_crossing dir lower over) after →
+pub crossed-stays : (dir : Dir) (s : Stepped) (lower over l o : Slot) (after : Crossing)
+    → Crossed dir s (slots_crossing dir lower over) after →
     l ≡ lower_after dir lower after → o ≡ over_after dir over after → Stays lower l × Stays over o
 crossed-stays Read s lower over l o after c l_is o_is = (
   record {
@@ -120,23 +122,27 @@ pub record SlotsStep (dir : Dir) (limit : ℕ) (mode : Mode) (at under : ℕ) (r
     (due : Bool) : Type 0 where
   pub there : at < length xs
   pub below : under < at
-  pub made : StepMadeOr dir limit mode r (slice_index_or xs under no_slot) (slice_index_or xs at no_slot) (slice_index_or ys under no_slot) (slice_index_or ys at no_slot) due
+  pub made : StepMadeOr dir limit mode r (slice_index_or xs under no_slot) (slice_index_or xs at no_slot)
+      (slice_index_or ys under no_slot) (slice_index_or ys at no_slot) due
   pub slots : ys ≡ slice_set (slice_set xs under (slice_index_or ys under no_slot)) at (slice_index_or ys at no_slot)
 
 pub slots-step : (dir : Dir) (limit : ℕ) (mode : Mode) (at under : ℕ) (r : Result Step WorldFault) (xs lent ys : List Slot) (due : Bool) →
     lent ≡ xs → at < length xs → under < at →
-    StepMadeOr dir limit mode r (slice_index_or lent under no_slot) (slice_index_or lent at no_slot) (slice_index_or ys under no_slot) (slice_index_or ys at no_slot) due →
+    StepMadeOr dir limit mode r (slice_index_or lent under no_slot) (slice_index_or lent at no_slot) (slice_index_or ys under no_slot)
+    (slice_index_or ys at no_slot) due →
     ys ≡ slice_set (slice_set lent under (slice_index_or ys under no_slot)) at (slice_index_or ys at no_slot) →
     SlotsStep dir limit mode at under r xs ys due
 slots-step dir limit mode at under r xs lent ys due same there below made slots = record {
   there = there;
   below = below;
-  made = subst (λ zs. StepMadeOr dir limit mode r (slice_index_or zs under no_slot) (slice_index_or zs at no_slot) (slice_index_or ys under no_slot) (slice_index_or ys at no_slot) due) same made;
+  made = subst (λ zs. StepMadeOr dir limit mode r (slice_index_or zs under no_slot) (slice_index_or zs at no_slot)
+      (slice_index_or ys under no_slot) (slice_index_or ys at no_slot) due) same made;
   slots = subst (λ zs. ys ≡ slice_set (slice_set zs under (slice_index_or ys under no_slot)) at (slice_index_or ys at no_slot)) same slots;
 }
 
 -- the list is as long as before
-pub step-long : (xs ys : List Slot) (at under : ℕ) → ys ≡ slice_set (slice_set xs under (slice_index_or ys under no_slot)) at (slice_index_or ys at no_slot) →
+pub step-long : (xs ys : List Slot) (at under : ℕ)
+    → ys ≡ slice_set (slice_set xs under (slice_index_or ys under no_slot)) at (slice_index_or ys at no_slot) →
     length ys ≡ length xs
 step-long xs ys at under is =
     ap length is ∙ length-set (slice_set xs under (slice_index_or ys under no_slot)) at (slice_index_or ys at no_slot)
@@ -200,12 +206,14 @@ unpassed dir at under w new ys due slots m is =
 -- what the slots say of a step is what the world says of it
 crossed-is : (dir : Dir) (at under : ℕ) (w : WorldValue) (p : Crossing) →
     raised_if (is_due dir (slot_at w at) p)
-    (record w { slots = slice_set (slice_set w.slots under (lower_after dir (slot_at w under) p)) at (over_after dir (slot_at w at) p) }) at (reason_of dir)
+    (record w { slots = slice_set (slice_set w.slots under (lower_after dir (slot_at w under) p)) at (over_after dir (slot_at w at) p) })
+    at (reason_of dir)
     ≡ crossed w dir at under p
 crossed-is Read at under w p = refl
 crossed-is Write at under w p = refl
 
-passed-is : (dir : Dir) (limit : ℕ) (mode : Mode) (at under : ℕ) (r : Result Step PassFault) (w new : WorldValue) (ys : List Slot) (due : Bool) →
+passed-is : (dir : Dir) (limit : ℕ) (mode : Mode) (at under : ℕ) (r : Result Step PassFault) (w new : WorldValue) (ys : List Slot)
+    (due : Bool) →
     ys ≡ slice_set (slice_set w.slots under (slice_index_or ys under no_slot)) at (slice_index_or ys at no_slot) →
     StepMade dir limit mode r (slot_at w under) (slot_at w at) (slice_index_or ys under no_slot) (slice_index_or ys at no_slot) due →
     new ≡ raised_if due (record w { slots = ys }) at (reason_of dir) → Passed dir limit mode at under r w new

@@ -141,7 +141,8 @@ pub passing : (xs : List Slot) (from to n : ℕ) (d e g f t l : Slot) (blank tak
     taken ≡ f.bev → front ≡ take n taken.output.bytes → into ≡ fed_reserved t.bev Read front →
     left ≡ record taken { output = less taken.output n left.output.spare } → room ≡ t.room - n →
     Passing xs from to n f t l blank into left room
-passing xs from to n d e g f t l blank taken into left room front apart from_there to_there f_is t_is l_is taken_is front_is into_is left_is room_is =
+passing xs from to n d e g f t l blank taken into left room front apart from_there to_there f_is t_is l_is taken_is front_is into_is
+    left_is room_is =
     record {
       apart = apart;
       from_there = from_there;
@@ -156,14 +157,17 @@ passing xs from to n d e g f t l blank taken into left room front apart from_the
 
 module _ (xs : List Slot) (from to n : ℕ) (f t l : Slot) (blank into left : BevValue) (room : ℕ)
     (p : Passing xs from to n f t l blank into left room) where
-  slots-back : slice_set (slice_set (slice_set xs from (record f { bev = blank })) to (record t { bev = into; room = room })) from (record l { bev = left })
+  slots-back : slice_set (slice_set (slice_set xs from (record f { bev = blank })) to (record t { bev = into; room = room })) from
+      (record l { bev = left })
       ≡ slice_set (slice_set xs from (record f { bev = left })) to (record t { bev = into; room = room })
   slots-back =
-      ap (λ (s : Slot). slice_set (slice_set (slice_set xs from (record f { bev = blank })) to (record t { bev = into; room = room })) from (record s { bev = left })) p.lay
+      ap (λ (s : Slot). slice_set (slice_set (slice_set xs from (record f { bev = blank })) to (record t { bev = into; room = room }))
+      from (record s { bev = left })) p.lay
       ∙ put-back xs from to (record f { bev = blank }) (record t { bev = into; room = room }) (record f { bev = left }) p.apart
 
   pub holds-passing : {more cap : ℕ} (es : List Entry) (spare : ℕ) → Holds xs es spare more cap →
-      Holds (slice_set (slice_set (slice_set xs from (record f { bev = blank })) to (record t { bev = into; room = room })) from (record l { bev = left })) es spare more cap
+      Holds (slice_set (slice_set (slice_set xs from (record f { bev = blank })) to (record t { bev = into; room = room })) from
+      (record l { bev = left })) es spare more cap
   holds-passing {more} {cap} es spare h = subst (λ ss. Holds ss es spare more cap) (sym slots-back) second
     where
       F : Slot
@@ -202,7 +206,10 @@ pub passes : (w : WorldValue) (from to n : ℕ) (f t l : Slot) (blank into left 
     writes ≡ (nat_lt 0 n && reaches_low left Write) →
     raised_if writes
     (raised_if reads
-    (record w { slots = slice_set (slice_set (slice_set w.slots from (record f { bev = blank })) to (record t { bev = into; room = room })) from (record l { bev = left }) })
+    (record w {
+      slots = slice_set (slice_set (slice_set w.slots from (record f { bev = blank })) to
+          (record t { bev = into; room = room })) from (record l { bev = left });
+    })
     to why.Read)
     from why.Write
     ≡ passed_on w from to n left.output.spare into.input.spare
@@ -216,7 +223,8 @@ passes w from to n f t l blank into left room reads writes p reads_is writes_is 
   where
     into_is : into ≡ record t.bev { input = more t.bev.input (take n f.bev.output.bytes) into.input.spare }
     into_is =
-        p.into_is ∙ ap (λ k. record t.bev { input = more t.bev.input (take n f.bev.output.bytes) k }) (sym (ap (λ (b : BevValue). b.input.spare) p.into_is))
+        p.into_is ∙ ap (λ k. record t.bev { input = more t.bev.input (take n f.bev.output.bytes) k })
+        (sym (ap (λ (b : BevValue). b.input.spare) p.into_is))
 
 -- What is spare before bytes go on doesn't matter
 
@@ -339,11 +347,13 @@ module _ (w : WorldValue) (at other n : ℕ) (apart : at ≢ other) (there : at 
 went_passed : (w v : WorldValue) (from to n behind before : ℕ) → Went w v → from ≢ to → from < length v.slots → to < length v.slots →
     Went w (passed_on v from to n behind before)
 went_passed w v from to n behind before h apart from_there to_there =
-    went_raised_if (nat_lt 0 n && reaches_low F.bev Write) w (raised_if (nat_lt 0 n && reaches_low T.bev Read) v2 to why.Read) from why.Write
+    went_raised_if (nat_lt 0 n && reaches_low F.bev Write) w
+    (raised_if (nat_lt 0 n && reaches_low T.bev Read) v2 to why.Read) from why.Write
     (went_raised_if (nat_lt 0 n && reaches_low T.bev Read) w v2 to why.Read
     (went_then w v v2 h
     (went_then v v1 v2 (went_set v from F from_there refl refl)
-    (went_set v1 to T (within-set v from to F to_there) (ap (λ (s : Slot). s.kind) (sym stays)) (ap (λ (s : Slot). s.bev.live) (sym stays))))))
+    (went_set v1 to T (within-set v from to F to_there) (ap (λ (s : Slot). s.kind) (sym stays))
+    (ap (λ (s : Slot). s.bev.live) (sym stays))))))
   where
     F : Slot
     F = given (slot_at v from) n behind

@@ -10,7 +10,7 @@ use Rattle.std.proofs.lemmas.Option.{none-some}
 use Rattle.ev_types.specs.declared.why.Why.{Why}
 use Rattle.deferred_cb.specs.DueCalls.{Call}
 use Rattle.bev_world.specs.Heard.{seat, heard_by, heard_of, Hears, HeardAll, HeardShort}
-use Rattle.bev_world.specs.Runs.{Deeds, Served, Called, Took, TookAll, RanAll, RanShort, is_started, taken_out, told_more}
+use Rattle.bev_world.specs.Runs.{MayDo, Served, Called, Took, TookAll, RanAll, RanShort, is_started, taken_out, told_more}
 use Rattle.bev_world.specs.WorldValue.{is_live}
 
 -- as many slots for those in service as for those taken out for good
@@ -30,7 +30,7 @@ told-then : (t : Option (List Why)) (xs ys : List Why) → told_more (told_more 
 told-then None xs ys = refl
 told-then (Some t) xs ys = ap Some (append_assoc t xs ys)
 
-module _ {H : Type 0} (heard : H → Option (List Why)) (did : Deeds H) where
+module _ {H : Type 0} (heard : H → Option (List Why)) (did : MayDo H) where
   hears-none : (o : Option H) → Hears heard o o []
   hears-none None = refl
   hears-none (Some h) = told-none (heard h)
@@ -98,7 +98,11 @@ module _ {H : Type 0} (heard : H → Option (List Why)) (did : Deeds H) where
   module _ (call : Call) (s new : Served H) (kept : IsKept s) (n : ℕ) where
     hears-done : (b : Bool) (rest : List Call) → MatchBool b (Called heard did true call (taken_out s rest) new) (new ≡ taken_out s rest) →
         IsKept new × Hears heard (seat s n) (seat new n) (heard_by n (call, b))
-    hears-done true rest called = (called-kept true call (taken_out s rest) new kept called, hears-called call (taken_out s rest) new kept called n)
+    hears-done true rest called = (
+      called-kept true call (taken_out s rest) new kept called,
+      hears-called call
+          (taken_out s rest) new kept called n,
+    )
     hears-done false rest e = subst (λ z. IsKept z × Hears heard (seat s n) (seat z n) []) (sym e) (kept, hears-none (seat s n))
 
     hears-took : (b : Bool) → b ≡ is_started s call → Took heard did call s new →

@@ -39,7 +39,8 @@ holds-set {more} {cap} ss es spare n s h within fits = record {
 
 -- a reason became due
 pub holds-raised : {more cap : ℕ} (ss : List Slot) (es next : List Entry) (spare left n : ℕ) (y : Why) →
-    Holds ss es spare more cap → n < length ss → next ≡ with_reason n y es → length next + left ≡ length es + spare → Holds ss next left more cap
+    Holds ss es spare more cap → n < length ss → next ≡ with_reason n y es → length next + left ≡ length es + spare
+    → Holds ss next left more cap
 holds-raised {more} {cap} ss es next spare left n y h within is kept = record {
   few = h.few;
   room = subst (λ z. lacking (length ss) (λ m. has_entry m z) + more ≤ left) (sym is)
@@ -87,7 +88,8 @@ fits-with count n x s h kind room = record {
 
 -- one slot is another with the same kind and enough room
 pub holds-with : {more cap : ℕ} (ss : List Slot) (es : List Entry) (spare n : ℕ) (d x s : Slot) →
-    Holds ss es spare more cap → n < length ss → x ≡ slice_index_or ss n d → s.kind ≡ x.kind → s.room ≤ s.bev.input.spare → Holds (slice_set ss n s) es spare more cap
+    Holds ss es spare more cap → n < length ss → x ≡ slice_index_or ss n d → s.kind ≡ x.kind → s.room ≤ s.bev.input.spare
+    → Holds (slice_set ss n s) es spare more cap
 holds-with ss es spare n d x s h within is kind room =
     holds-set ss es spare n s h within (fits-with (length ss) n x s (fits-read ss es spare n d x h within is) kind room)
 
@@ -117,7 +119,8 @@ fits-new count n s h = record { joined = h.joined; room = let r = h.room in omeg
 
 -- one or two come behind the others
 pub holds-new : (ss new : List Slot) (es : List Entry) (spare more cap : ℕ) →
-    ((n : ℕ) → n < length ss → IsSlot (length ss) n (slice_index_or ss n no_slot)) → length ss + length new < 2 ^ 32 → (lacking (length ss) (λ m. has_entry m es) + length new) + more ≤ spare →
+    ((n : ℕ) → n < length ss → IsSlot (length ss) n (slice_index_or ss n no_slot)) → length ss + length new < 2 ^ 32
+    → (lacking (length ss) (λ m. has_entry m es) + length new) + more ≤ spare →
     (length ss + length new) + more ≤ cap →
     ((k : ℕ) → k < length new → IsNew (length ss + length new) (length ss + k) (slice_index_or new k no_slot)) →
     Holds (ss ++ new) es spare more cap
@@ -128,7 +131,8 @@ holds-new ss new es spare more cap each few room big fits = record {
       let whole = ap (λ c. lacking c (λ m. has_entry m es)) long in
       omega (arith, most, whole, room);
   fits = omega (arith, long, big);
-  each = λ n lt. subst (λ c. IsSlot c n (slice_index_or (ss ++ new) n no_slot)) (sym long) (at n (omega (arith, lt, long)) (leb_tells (suc n) (length ss)));
+  each = λ n lt. subst (λ c. IsSlot c n (slice_index_or (ss ++ new) n no_slot)) (sym long)
+      (at n (omega (arith, lt, long)) (leb_tells (suc n) (length ss)));
 }
   where
     long : length (ss ++ new) ≡ length ss + length new

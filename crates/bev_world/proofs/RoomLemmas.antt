@@ -188,7 +188,8 @@ room-raised more c n y es spare next within room kept =
     omega (arith, one, long, room, kept)
 
 -- whoever has no entry has room for one
-pub room-there : (more c n : ℕ) (es : List Entry) (spare : ℕ) → n < c → lacking c (λ m. has_entry m es) + more ≤ spare → has_entry n es ≡ false →
+pub room-there : (more c n : ℕ) (es : List Entry) (spare : ℕ) → n < c → lacking c (λ m. has_entry m es) + more ≤ spare
+    → has_entry n es ≡ false →
     0 < spare
 room-there more c n es spare within room none =
     let one = more-within (λ m. has_entry m es) (λ m. nat_eq m n || has_entry m es) n (λ m. refl) c within in

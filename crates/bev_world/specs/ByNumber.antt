@@ -48,7 +48,8 @@ crossed_at w dir n under p =
 
 -- the step between the slot under a filter and its own was made, and they are as it left them
 pub record SlotsWent (dir : Dir) (limit : ℕ) (at_end : Bool) (lower upper new_lower new_upper : Slot) : Type 0 where
-  pub crossed : Crossed dir (stepping dir (slots_crossing dir lower upper) limit at_end) (slots_crossing dir lower upper) (slots_crossing dir new_lower new_upper)
+  pub crossed : Crossed dir (stepping dir (slots_crossing dir lower upper) limit at_end) (slots_crossing dir lower upper)
+      (slots_crossing dir new_lower new_upper)
   pub lower_is : new_lower ≡ lower_after dir lower (slots_crossing dir new_lower new_upper)
   pub upper_is : new_upper ≡ over_after dir upper (slots_crossing dir new_lower new_upper)
 

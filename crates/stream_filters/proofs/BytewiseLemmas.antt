@@ -13,7 +13,7 @@ use Rattle.filter_model.proofs.RunningLemmas.{holds-none}
 use Rattle.stream_filters.specs.declared.stream_filter.Step.{Step}
 use Rattle.stream_filters.specs.StepAnswers.{is_last}
 use Rattle.stream_filters.specs.Bytewise.{bytewise, more-bytewise, GivesBytes}
-use Rattle.stream_filters.specs.StreamSteps.{Reached, held_after, must_end, use_count, Taken, taking, taken, Tells, StepsBy}
+use Rattle.stream_filters.specs.StreamSteps.{Reached, held_after, must_end, use_count, Taken, taking, taken, Tells, MakesStep}
 
 -- the first place at which a test holds
 pub first-at : (stop : ℕ → Bool) (n left m : ℕ) → m ≤ left → ((j : ℕ) → j < m → stop (n + j) ≡ false) → (m < left → stop (n + m) ≡ true) →
@@ -120,7 +120,7 @@ module _ {S : Type 0} (give : ℕ → List ℕ) (reached : S → Reached) (known
       } →
       step.finished ≡ (is_last mode && (step.used == length src)) →
       ((past : List ℕ) → known before past → known after (past ++ take step.used src)) → (reached before).used + length src < 2 ^ 64 →
-      StepsBy (λ _. bytewise give) reached known mode limit src (Ok step) before after target filled
+      MakesStep (λ _. bytewise give) reached known mode limit src (Ok step) before after target filled
   bytewise-steps step going unstopped gives came finished knows fits = record {
     same = refl;
     tells = λ past k.
@@ -147,7 +147,7 @@ module _ {S : Type 0} (give : ℕ → List ℕ) (reached : S → Reached) (known
 -- a step of a filter that is finished
 pub finished-steps : {S : Type 0} (filter : S → Filter) (reached : S → Reached) (known : S → List ℕ → Type 0) (mode : Mode) (limit : ℕ)
     (src target : List ℕ) (x : S) (step : Step) → (reached x).finished ≡ true → (reached x).stopped ≡ None → step.used ≡ 0 →
-    step.finished ≡ true → StepsBy filter reached known mode limit src (Ok step) x x target target
+    step.finished ≡ true → MakesStep filter reached known mode limit src (Ok step) x x target target
 finished-steps filter reached known mode limit src target x step done unstopped none says = record {
   same = refl;
   tells = λ past k.

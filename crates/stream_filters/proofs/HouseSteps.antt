@@ -18,7 +18,7 @@ use Rattle.stream_filters.specs.declared.fault.FilterFault.{FilterFault}
 use Rattle.stream_filters.specs.declared.fault.FilterFault.TheVariants.{Memory, BadByte, Spent}
 use Rattle.stream_filters.specs.House.{MayHaveUsed, definition, reach}
 use Rattle.stream_filters.specs.StepAnswers.{Answers, is_last, is_spent, says_spent}
-use Rattle.stream_filters.specs.StreamSteps.{held_after, must_end, use_count, Taken, taking, taken, Tells, KeptIfRefused, StepsBy}
+use Rattle.stream_filters.specs.StreamSteps.{held_after, must_end, use_count, Taken, taking, taken, Tells, KeptIfRefused, MakesStep}
 
 -- a place that is counted from a later one on
 first_from-shift : (stop : ℕ → Bool) (n m left : ℕ) → first_from stop (n + m) left ≡ n + first_from (λ j. stop (n + j)) m left
@@ -274,7 +274,7 @@ module _ (x after : Running) (mode : Mode) (limit : ℕ) (src target filled : Li
 
   pub house-steps : (result : Result Step FilterFault) → Answers result step_made x after target filled → after.kind ≡ x.kind →
       says_spent result ≡ is_spent x (length src) →
-      StepsBy definition reach MayHaveUsed mode limit src result x after target filled
+      MakesStep definition reach MayHaveUsed mode limit src result x after target filled
   house-steps result h kind spent = record {
     same = ap filter_of kind;
     tells = answer-tells result h;

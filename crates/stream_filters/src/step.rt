@@ -140,7 +140,8 @@ fn run_on(
     requires digit { IsDigitLast kind known.old.last }
     requires room { length dst.old.items + most_by_step kind (length src.now) (length dst.old.items) limit ≤ vec_capacity dst.old }
     ensures used { result ≡ (stepped (running_of kind known.old) over limit (length dst.old.items) src.now).used }
-    ensures made { WasMade (stepped (running_of kind known.old) over limit (length dst.old.items) src.now) (running_of kind known.new) dst.old.items dst.new.items }
+    ensures made { WasMade (stepped (running_of kind known.old) over limit (length dst.old.items) src.now)
+        (running_of kind known.new) dst.old.items dst.new.items }
     ensures digit { IsDigitLast kind known.new.last }
     ensures capacity { vec_capacity dst.old ≤ vec_capacity dst.new }
 {
@@ -166,7 +167,8 @@ fn go_on(
     requires unstopped { known.old.stopped ≡ None }
     requires counted { known.old.used + length src.now < 2 ^ 64 }
     requires digit { IsDigitLast kind known.old.last }
-    ensures answers { Answers result (stepped (running_of kind known.old) (is_last mode) limit (length dst.old.items) src.now) (running_of kind known.old) (running_of kind known.new) dst.old.items dst.new.items }
+    ensures answers { Answers result (stepped (running_of kind known.old) (is_last mode) limit (length dst.old.items) src.now)
+        (running_of kind known.old) (running_of kind known.new) dst.old.items dst.new.items }
     ensures counted { says_spent result ≡ false }
     ensures digit { IsDigitLast kind known.new.last }
 {
@@ -194,7 +196,8 @@ pub(crate) fn make(
     requires digit { IsDigitLast kind known.old.last }
     requires room { length dst.old.items + most_by_step kind (length src.now) (length dst.old.items) limit ≤ vec_capacity dst.old }
     ensures used { result ≡ (stepped (running_of kind known.old) over limit (length dst.old.items) src.now).used }
-    ensures made { WasMade (stepped (running_of kind known.old) over limit (length dst.old.items) src.now) (running_of kind known.new) dst.old.items dst.new.items }
+    ensures made { WasMade (stepped (running_of kind known.old) over limit (length dst.old.items) src.now)
+        (running_of kind known.new) dst.old.items dst.new.items }
     ensures digit { IsDigitLast kind known.new.last }
     ensures capacity { vec_capacity dst.old ≤ vec_capacity dst.new }
 {
@@ -214,7 +217,8 @@ pub(crate) fn step_by(
     mode: Mode,
 ) -> Result<Step, FilterFault>
     requires digit { IsDigitLast kind known.old.last }
-    ensures answers { Answers result (stepped (running_of kind known.old) (is_last mode) limit (length dst.old.items) src.now) (running_of kind known.old) (running_of kind known.new) dst.old.items dst.new.items }
+    ensures answers { Answers result (stepped (running_of kind known.old) (is_last mode) limit (length dst.old.items) src.now)
+        (running_of kind known.old) (running_of kind known.new) dst.old.items dst.new.items }
     ensures spent { says_spent result ≡ is_spent (running_of kind known.old) (length src.now) }
     ensures digit { IsDigitLast kind known.new.last }
 {
@@ -265,7 +269,8 @@ pub(crate) fn step_in_place(
     limit: usize,
     mode: Mode,
 ) -> Result<Step, FilterFault>
-    ensures answers { AnswersInPlace result (stepped (running_of kind_of.None known.old) (is_last mode) limit held src.now) (running_of kind_of.None known.old) (running_of kind_of.None known.new) src.now }
+    ensures answers { AnswersInPlace result (stepped (running_of kind_of.None known.old) (is_last mode) limit held src.now)
+        (running_of kind_of.None known.old) (running_of kind_of.None known.new) src.now }
     ensures spent { says_spent result ≡ is_spent (running_of kind_of.None known.old) (length src.now) }
 {
     if let Some(place) = known.stopped {

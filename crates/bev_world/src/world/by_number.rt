@@ -196,7 +196,8 @@ impl World {
     /// Own.
     pub fn drain_at(&mut self, at: usize, n: usize)
         requires { at < length self.old.slots }
-        ensures bytes { self.new ≡ with_bev self.old at (record (bev_at self.old at) { output = less (bev_at self.old at).output n (bev_at self.new at).output.spare }) }
+        ensures bytes { self.new ≡ with_bev self.old at
+            (record (bev_at self.old at) { output = less (bev_at self.old at).output n (bev_at self.new at).output.spare }) }
         ensures spare { (bev_at self.old at).output.spare ≤ (bev_at self.new at).output.spare }
     {
         self.slots[at].bev.drain(Dir::Write, n);
@@ -240,8 +241,8 @@ impl World {
         swap_slots(&mut self.slots, from, to);
     }
 
-    /// Makes room for a step of a filter bufferevent that is offered `count` bytes, as `reserve_step` of bev_filter does: for reading in its
-    /// own input, for writing in the output of the one under it. Answers how many bytes the step makes at most.
+    /// Makes room for a step of a filter bufferevent that is offered `count` bytes, as `reserve_step` of bev_filter does: for reading in
+    /// its own input, for writing in the output of the one under it. Answers how many bytes the step makes at most.
     ///
     /// Own.
     pub fn reserve_step_at(
@@ -256,12 +257,21 @@ impl World {
     ) -> Result<usize, NoMemory>
         requires there { at < length self.old.slots }
         requires below { under_of (slot_at self.old at).kind ≡ Some under }
-        ensures stays { self.new ≡ with_bev self.old (target_of dir at under) (with_spare_in (bev_at self.old (target_of dir at under)) dir (held (crossing self.new dir at under).to dir).spare) }
-        ensures crossing { crossing self.new dir at under ≡ record (crossing self.old dir at under) { to = with_spare_in (crossing self.old dir at under).to dir (held (crossing self.new dir at under).to dir).spare } }
+        ensures stays { self.new ≡ with_bev self.old (target_of dir at under)
+            (with_spare_in (bev_at self.old (target_of dir at under)) dir (held (crossing self.new dir at under).to dir).spare) }
+        ensures crossing { crossing self.new dir at under
+            ≡ record (crossing self.old dir at under) {
+              to = with_spare_in (crossing self.old dir at under).to dir
+                  (held (crossing self.new dir at under).to dir).spare;
+            } }
         ensures spare { (held (crossing self.old dir at under).to dir).spare ≤ (held (crossing self.new dir at under).to dir).spare }
         ensures beside { vec_capacity beside.old ≤ vec_capacity beside.new }
-        ensures room { OnOk result (HasStepRoom (crossing self.new dir at under).filter.kind count (length (held (crossing self.new dir at under).to dir).bytes) limit (held (crossing self.new dir at under).to dir).spare (vec_capacity beside.new) made) }
-        ensures most { IfOk result (λ most. most ≡ most_by_step (crossing self.new dir at under).filter.kind count (length (held (crossing self.new dir at under).to dir).bytes) limit) }
+        ensures room { OnOk result (HasStepRoom (crossing self.new dir at under).filter.kind count
+            (length (held (crossing self.new dir at under).to dir).bytes) limit (held (crossing self.new dir at under).to dir).spare
+            (vec_capacity beside.new) made) }
+        ensures most { IfOk result (λ most. most
+            ≡ most_by_step (crossing self.new dir at under).filter.kind count
+            (length (held (crossing self.new dir at under).to dir).bytes) limit) }
     {
         self.reserve_target(at, under, dir, count, beside, limit, made)
     }
@@ -280,11 +290,17 @@ impl World {
         requires there { at < length self.old.slots }
         requires below { under_of (slot_at self.old at).kind ≡ Some under }
         ensures below { under < at }
-        ensures stays { self.new ≡ with_bev self.old (target_of dir at under) (with_spare_in (bev_at self.old (target_of dir at under)) dir (held (bev_at self.new (target_of dir at under)) dir).spare) }
-        ensures spare { (held (bev_at self.old (target_of dir at under)) dir).spare ≤ (held (bev_at self.new (target_of dir at under)) dir).spare }
+        ensures stays { self.new ≡ with_bev self.old (target_of dir at under)
+            (with_spare_in (bev_at self.old (target_of dir at under)) dir (held (bev_at self.new (target_of dir at under)) dir).spare) }
+        ensures spare { (held (bev_at self.old (target_of dir at under)) dir).spare ≤
+            (held (bev_at self.new (target_of dir at under)) dir).spare }
         ensures beside { vec_capacity beside.old ≤ vec_capacity beside.new }
-        ensures room { OnOk result (HasStepRoom (filter_of (slot_at self.old at) dir).kind count (length (held (bev_at self.new (target_of dir at under)) dir).bytes) limit (held (bev_at self.new (target_of dir at under)) dir).spare (vec_capacity beside.new) made) }
-        ensures most { IfOk result (λ most. most ≡ most_by_step (filter_of (slot_at self.old at) dir).kind count (length (held (bev_at self.new (target_of dir at under)) dir).bytes) limit) }
+        ensures room { OnOk result (HasStepRoom (filter_of (slot_at self.old at) dir).kind count
+            (length (held (bev_at self.new (target_of dir at under)) dir).bytes) limit
+            (held (bev_at self.new (target_of dir at under)) dir).spare (vec_capacity beside.new) made) }
+        ensures most { IfOk result (λ most. most
+            ≡ most_by_step (filter_of (slot_at self.old at) dir).kind count
+            (length (held (bev_at self.new (target_of dir at under)) dir).bytes) limit) }
     {
         let kind = self.filter(at, dir).kind();
         let to = match dir {
@@ -302,8 +318,8 @@ impl World {
         )
     }
 
-    /// The step of a filter bufferevent, as `step_reserved` of bev_filter makes it, in room that was made before: what is read goes from the
-    /// input of the one under it to its own input, what is written from its own output to the output of the one under it. No input to
+    /// The step of a filter bufferevent, as `step_reserved` of bev_filter makes it, in room that was made before: what is read goes from
+    /// the input of the one under it to its own input, what is written from its own output to the output of the one under it. No input to
     /// which bytes came or from which they went is sure to have room any more. Answers how many bytes were made by then, of which `made`
     /// were made before. Takes no memory, and is never refused.
     ///
@@ -322,7 +338,8 @@ impl World {
         requires below { under_of (slot_at self.old at).kind ≡ Some under }
         requires counted { IsCounted dir (crossing self.old dir at under) }
         requires room { HasRoomFor dir (crossing self.old dir at under) limit (vec_capacity beside.old) made }
-        ensures crossed { Crossed dir (stepping dir (crossing self.old dir at under) limit at_end) (crossing self.old dir at under) (crossing self.new dir at under) }
+        ensures crossed { Crossed dir (stepping dir (crossing self.old dir at under) limit at_end) (crossing self.old dir at under)
+            (crossing self.new dir at under) }
         ensures world { self.new ≡ crossed_at self.old dir at under (crossing self.new dir at under) }
         ensures made { result ≡ made + length (stepping dir (crossing self.old dir at under) limit at_end).made }
         ensures beside { vec_capacity beside.old ≤ vec_capacity beside.new }
@@ -336,7 +353,9 @@ fn swap_slots(slots: &mut [Slot], from: usize, to: usize)
     requires there { from < length slots.old }
     requires to_there { to < length slots.old }
     requires apart { from ≢ to }
-    ensures { slots.new ≡ slice_set (slice_set slots.old to (output_swapped (slice_index_or slots.old from no_slot) (slice_index_or slots.old to no_slot))) from (input_swapped (slice_index_or slots.old from no_slot) (slice_index_or slots.old to no_slot)) }
+    ensures { slots.new ≡ slice_set (slice_set slots.old to
+        (output_swapped (slice_index_or slots.old from no_slot) (slice_index_or slots.old to no_slot))) from
+        (input_swapped (slice_index_or slots.old from no_slot) (slice_index_or slots.old to no_slot)) }
 {
     if from < to {
         let (front, back) = slots.split_at_mut(to);
@@ -370,10 +389,15 @@ fn step_slots(
     requires there { at < length slots.old }
     requires below { under < at }
     requires counted { IsCounted dir (slots_crossing dir (slice_index_or slots.old under no_slot) (slice_index_or slots.old at no_slot)) }
-    requires room { HasRoomFor dir (slots_crossing dir (slice_index_or slots.old under no_slot) (slice_index_or slots.old at no_slot)) limit (vec_capacity beside.old) made }
-    ensures went { SlotsWent dir limit at_end (slice_index_or slots.old under no_slot) (slice_index_or slots.old at no_slot) (slice_index_or slots.new under no_slot) (slice_index_or slots.new at no_slot) }
-    ensures slots { slots.new ≡ slice_set (slice_set slots.old under (slice_index_or slots.new under no_slot)) at (slice_index_or slots.new at no_slot) }
-    ensures made { result ≡ made + length (stepping dir (slots_crossing dir (slice_index_or slots.old under no_slot) (slice_index_or slots.old at no_slot)) limit at_end).made }
+    requires room { HasRoomFor dir (slots_crossing dir (slice_index_or slots.old under no_slot) (slice_index_or slots.old at no_slot))
+        limit (vec_capacity beside.old) made }
+    ensures went { SlotsWent dir limit at_end (slice_index_or slots.old under no_slot) (slice_index_or slots.old at no_slot)
+        (slice_index_or slots.new under no_slot) (slice_index_or slots.new at no_slot) }
+    ensures slots { slots.new ≡ slice_set (slice_set slots.old under (slice_index_or slots.new under no_slot)) at
+        (slice_index_or slots.new at no_slot) }
+    ensures made { result ≡ made + length
+        (stepping dir (slots_crossing dir (slice_index_or slots.old under no_slot) (slice_index_or slots.old at no_slot)) limit
+        at_end).made }
     ensures beside { vec_capacity beside.old ≤ vec_capacity beside.new }
 {
     let (front, back) = slots.split_at_mut(at);

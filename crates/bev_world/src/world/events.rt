@@ -39,7 +39,8 @@ impl World {
     pub fn ended(&mut self, id: BevId, dir: Dir) -> Result<Flags, WorldFault>
         ensures answer { fault_of result ≡ live_refusal self.old id.0 }
         ensures flags { IfOk result (λ flags. flags ≡ event_flags dir EOF) }
-        ensures ok { OnOk result (self.new ≡ raised (with_bev self.old id.0 (ended_at (bev_at self.old id.0) dir)) id.0 (why_of.Event (event_flags dir EOF))) }
+        ensures ok { OnOk result (self.new
+            ≡ raised (with_bev self.old id.0 (ended_at (bev_at self.old id.0) dir)) id.0 (why_of.Event (event_flags dir EOF))) }
         ensures err { OnErr result (self.new ≡ self.old) }
         ensures went { Went self.old self.new }
     {
@@ -55,7 +56,8 @@ impl World {
     pub fn failed(&mut self, id: BevId, dir: Dir) -> Result<Flags, WorldFault>
         ensures answer { fault_of result ≡ live_refusal self.old id.0 }
         ensures flags { IfOk result (λ flags. flags ≡ event_flags dir ERROR) }
-        ensures ok { OnOk result (self.new ≡ raised (with_bev self.old id.0 (failed_at (bev_at self.old id.0) dir)) id.0 (why_of.Event (event_flags dir ERROR))) }
+        ensures ok { OnOk result (self.new
+            ≡ raised (with_bev self.old id.0 (failed_at (bev_at self.old id.0) dir)) id.0 (why_of.Event (event_flags dir ERROR))) }
         ensures err { OnErr result (self.new ≡ self.old) }
         ensures went { Went self.old self.new }
     {
@@ -71,7 +73,9 @@ impl World {
     pub fn timed_out(&mut self, id: BevId, dir: Dir) -> Result<Flags, WorldFault>
         ensures answer { fault_of result ≡ live_refusal self.old id.0 }
         ensures flags { IfOk result (λ flags. flags ≡ event_flags dir TIMEOUT) }
-        ensures ok { OnOk result (self.new ≡ raised (with_bev self.old id.0 (with_enabled (bev_at self.old id.0) dir false)) id.0 (why_of.Event (event_flags dir TIMEOUT))) }
+        ensures ok { OnOk result (self.new
+            ≡ raised (with_bev self.old id.0 (with_enabled (bev_at self.old id.0) dir false)) id.0
+            (why_of.Event (event_flags dir TIMEOUT))) }
         ensures err { OnErr result (self.new ≡ self.old) }
         ensures went { Went self.old self.new }
     {

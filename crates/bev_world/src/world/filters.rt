@@ -53,7 +53,8 @@ impl World {
     fn find_under(&self, at: usize) -> Result<usize, WorldFault>
         requires { at < length self.now.slots }
         ensures answer { fault_of result ≡ below_refusal (under_of (slot_at self.now at).kind) self.now }
-        ensures found { IfOk result (λ under. (under_of (slot_at self.now at).kind ≡ Some under) × (under < at) × (is_live self.now under ≡ true)) }
+        ensures found { IfOk result (λ under. (under_of (slot_at self.now at).kind ≡ Some under) × (under < at)
+            × (is_live self.now under ≡ true)) }
     {
         match self.slots[at].kind {
             Kind::Filter(under) => self.find(BevId(under)),
@@ -99,9 +100,12 @@ fn pass_slots(
     requires live { (slice_index_or slots.old at no_slot).bev.live ≡ true }
     requires under_live { (slice_index_or slots.old under no_slot).bev.live ≡ true }
     requires open { IsOpenFor (slots_crossing dir (slice_index_or slots.old under no_slot) (slice_index_or slots.old at no_slot)) dir mode }
-    ensures answer { AnswersPass result.0 (spent_refusal (slots_crossing dir (slice_index_or slots.old under no_slot) (slice_index_or slots.old at no_slot)) dir) }
-    ensures passed { StepMadeOr dir limit mode result.0 (slice_index_or slots.old under no_slot) (slice_index_or slots.old at no_slot) (slice_index_or slots.new under no_slot) (slice_index_or slots.new at no_slot) result.1 }
-    ensures slots { slots.new ≡ slice_set (slice_set slots.old under (slice_index_or slots.new under no_slot)) at (slice_index_or slots.new at no_slot) }
+    ensures answer { AnswersPass result.0
+        (spent_refusal (slots_crossing dir (slice_index_or slots.old under no_slot) (slice_index_or slots.old at no_slot)) dir) }
+    ensures passed { StepMadeOr dir limit mode result.0 (slice_index_or slots.old under no_slot) (slice_index_or slots.old at no_slot)
+        (slice_index_or slots.new under no_slot) (slice_index_or slots.new at no_slot) result.1 }
+    ensures slots { slots.new ≡ slice_set (slice_set slots.old under (slice_index_or slots.new under no_slot)) at
+        (slice_index_or slots.new at no_slot) }
 {
     let (front, back) = slots.split_at_mut(at);
     pass_between(&mut front[under], &mut back[0], dir, limit, mode)

@@ -102,7 +102,8 @@ impl World {
     /// Libevent: event2/bufferevent.h, `bufferevent_incref`; "Bufferevents: advanced topics".
     pub fn incref(&mut self, id: BevId) -> Result<(), WorldFault>
         ensures answer { fault_of result ≡ incref_refusal self.old id.0 }
-        ensures ok { OnOk result (self.new ≡ with_bev self.old id.0 (record (bev_at self.old id.0) { refs = (bev_at self.old id.0).refs + 1 })) }
+        ensures ok { OnOk result (self.new
+            ≡ with_bev self.old id.0 (record (bev_at self.old id.0) { refs = (bev_at self.old id.0).refs + 1 })) }
         ensures err { OnErr result (self.new ≡ self.old) }
         ensures went { Went self.old self.new }
     {
@@ -119,7 +120,8 @@ impl World {
     pub fn decref(&mut self, id: BevId) -> Result<(), WorldFault>
         requires { is_live self.old id.0 ≡ true → 0 < (bev_at self.old id.0).refs }
         ensures answer { fault_of result ≡ decref_refusal self.old id.0 }
-        ensures ok { OnOk result (self.new ≡ with_bev self.old id.0 (record (bev_at self.old id.0) { refs = (bev_at self.old id.0).refs - 1 })) }
+        ensures ok { OnOk result (self.new
+            ≡ with_bev self.old id.0 (record (bev_at self.old id.0) { refs = (bev_at self.old id.0).refs - 1 })) }
         ensures err { OnErr result (self.new ≡ self.old) }
         ensures went { Went self.old self.new }
     {
@@ -137,7 +139,8 @@ impl World {
     /// Own.
     pub fn reserve_input(&mut self, id: BevId, n: usize) -> Result<(), WorldFault>
         ensures answer { AnswersOr Memory result (live_refusal self.old id.0) }
-        ensures stays { OnOk result (self.new ≡ with_input_room self.old id.0 (slot_at self.new id.0).room (bev_at self.new id.0).input.spare) }
+        ensures stays { OnOk result (self.new
+            ≡ with_input_room self.old id.0 (slot_at self.new id.0).room (bev_at self.new id.0).input.spare) }
         ensures room { OnOk result (n ≤ (slot_at self.new id.0).room) }
         ensures kept { OnOk result ((slot_at self.old id.0).room ≤ (slot_at self.new id.0).room) }
         ensures err { OnErr result (self.new ≡ self.old) }

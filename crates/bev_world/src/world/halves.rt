@@ -88,7 +88,8 @@ impl World {
         requires apart { at ≢ other }
         requires live { is_live self.old at ≡ true }
         requires other_live { is_live self.old other ≡ true }
-        ensures answer { AnswersOr Memory result (back_refusal (Some other) self.old at (min (length into.old) (length (bev_at self.old at).input.bytes))) }
+        ensures answer { AnswersOr Memory result
+            (back_refusal (Some other) self.old at (min (length into.old) (length (bev_at self.old at).input.bytes))) }
         ensures count { IfOk result (λ n. n ≡ min (length into.old) (length (bev_at self.old at).input.bytes)) }
         ensures copied { IfOk result (λ n. into.new ≡ take n (bev_at self.old at).input.bytes ++ drop n into.old) }
         ensures ok { IfOk result (λ n. TakenFrom (Some other) self.old at n self.new) }

@@ -20,7 +20,8 @@ impl World {
     /// Libevent: event2/bufferevent.h, `bufferevent_write_buffer`; "Bufferevents: concepts and basics".
     pub fn move_input(&mut self, from: BevId, to: BevId) -> Result<(), WorldFault>
         ensures answer { AnswersOr Memory result (move_refusal self.old from.0 to.0) }
-        ensures ok { OnOk result (self.new ≡ moved_input self.old from.0 to.0 (bev_at self.new to.0).output.spare (bev_at self.new from.0).input.spare) }
+        ensures ok { OnOk result (self.new
+            ≡ moved_input self.old from.0 to.0 (bev_at self.new to.0).output.spare (bev_at self.new from.0).input.spare) }
         ensures err { OnErr result (self.new ≡ self.old) }
         ensures went { Went self.old self.new }
     {
@@ -38,7 +39,8 @@ impl World {
         requires all { n ≡ length (bev_at self.old from).input.bytes }
         requires fits { length (bev_at self.old to).output.bytes + n < 2 ^ 64 }
         ensures answer { AnswersOr Memory result None }
-        ensures ok { OnOk result (self.new ≡ moved_input self.old from to (bev_at self.new to).output.spare (bev_at self.new from).input.spare) }
+        ensures ok { OnOk result (self.new
+            ≡ moved_input self.old from to (bev_at self.new to).output.spare (bev_at self.new from).input.spare) }
         ensures err { OnErr result (self.new ≡ self.old) }
         ensures went { Went self.old self.new }
     {
@@ -76,7 +78,8 @@ impl World {
     fn count_between(&self, from: usize, to: usize) -> Result<usize, WorldFault>
         requires there { from < length self.now.slots }
         requires to_there { to < length self.now.slots }
-        ensures answer { fault_of result ≡ length_fault (length (bev_at self.now to).output.bytes) (length (bev_at self.now from).input.bytes) }
+        ensures answer { fault_of result
+            ≡ length_fault (length (bev_at self.now to).output.bytes) (length (bev_at self.now from).input.bytes) }
         ensures count { IfOk result (λ n. n ≡ length (bev_at self.now from).input.bytes) }
         ensures fits { IfOk result (λ n. length (bev_at self.now to).output.bytes + n < 2 ^ 64) }
     {

@@ -41,7 +41,8 @@ impl World {
     ///
     /// Libevent: event2/bufferevent.h, `bufferevent_data_cb`; "Bufferevents: concepts and basics".
     pub fn took(&mut self, id: BevId, n: usize, now: u64) -> Result<(), WorldFault>
-        requires { is_live self.old id.0 ≡ true → is_socket (slot_at self.old id.0).kind ≡ true → n ≤ length (bev_at self.old id.0).output.bytes }
+        requires { is_live self.old id.0 ≡ true → is_socket (slot_at self.old id.0).kind ≡ true
+            → n ≤ length (bev_at self.old id.0).output.bytes }
         ensures answer { fault_of result ≡ socket_refusal self.old id.0 }
         ensures ok { OnOk result (self.new ≡ took_of self.old id.0 n now (bev_at self.new id.0).output.spare) }
         ensures err { OnErr result (self.new ≡ self.old) }
@@ -71,7 +72,8 @@ fn bring(slot: &mut Slot, bytes: &[u8], now: u64) -> Result<bool, WorldFault>
     requires live { slot.old.bev.live ≡ true }
     requires room { slot.old.room ≤ slot.old.bev.input.spare }
     ensures answer { AnswersOr Memory result (length_fault (length slot.old.bev.input.bytes) (length bytes.now)) }
-    ensures enough { length bytes.now ≤ slot.old.room → fault_of result ≡ length_fault (length slot.old.bev.input.bytes) (length bytes.now) }
+    ensures enough { length bytes.now ≤ slot.old.room
+        → fault_of result ≡ length_fault (length slot.old.bev.input.bytes) (length bytes.now) }
     ensures ok { OnOk result (slot.new ≡ fed_slot slot.old bytes.now now slot.new.bev.input.spare) }
     ensures due { IfOk result (λ due. due ≡ (nat_lt 0 (length bytes.now) && reaches_low slot.new.bev dir_of.Read)) }
     ensures room { OnOk result (slot.new.room ≤ slot.new.bev.input.spare) }

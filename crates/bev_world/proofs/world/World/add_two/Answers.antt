@@ -18,7 +18,8 @@ invariant_of-self c =
     c.unwrap-2.ensures in
     let all : c.push-2.new.self.items ≡ ss ++ c.args.slot ∷ c.args.other ∷ [] =
     second ∙ ap (λ (z : List Slot). z ++ c.args.other ∷ []) first ∙ append_assoc ss (c.args.slot ∷ []) (c.args.other ∷ []) in
-    subst (λ (z : List Slot). Holds z c.self.inside.due.pending c.self.inside.due.spare (c.self.inside.spare - 2) (vec_capacity c.push-2.new.self))
+    subst (λ (z : List Slot). Holds z c.self.inside.due.pending c.self.inside.due.spare (c.self.inside.spare - 2)
+    (vec_capacity c.push-2.new.self))
     (sym all)
     (holds_two ss c.self.inside.due.pending c.self.inside.due.spare (c.self.inside.spare - 2) (vec_capacity c.push-2.new.self) c.args.slot
     c.args.other v.each (omega (arith, c.requires.few, ap length same)) (omega (arith, v.room, spare))
@@ -34,5 +35,6 @@ returns-clause-went c =
     c.unwrap-2.ensures in
     let all : c.push-2.new.self.items ≡ ss ++ c.args.slot ∷ c.args.other ∷ [] =
     second ∙ ap (λ (z : List Slot). z ++ c.args.other ∷ []) first ∙ append_assoc ss (c.args.slot ∷ []) (c.args.other ∷ []) in
-    went_then _ _ _ c.reserve.ensures.went (rw (← c.self.view_is, all) (went_new (world_of c.self.inside) (c.args.slot ∷ c.args.other ∷ []) _ _ _
+    went_then _ _ _ c.reserve.ensures.went
+    (rw (← c.self.view_is, all) (went_new (world_of c.self.inside) (c.args.slot ∷ c.args.other ∷ []) _ _ _
     (lives_two c.args.slot c.args.other c.requires.fits.live c.requires.other_fits.live) refl refl))

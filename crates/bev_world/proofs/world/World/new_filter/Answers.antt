@@ -25,5 +25,6 @@ pub returns-clause-went : goal.returns-clause-went
 returns-clause-went c =
     let known = c.add.ensures.went.known in
     let many = ap (λ (v : WorldValue). length v.slots) c.self-2.view_is in
-    went_then _ _ _ c.add.ensures.went (rw (← c.self-2.view_is) (went_taken (world_of c.self-2.inside) c.in_ok-at.at _ c.index_mut.result.now
+    went_then _ _ _ c.add.ensures.went (rw (← c.self-2.view_is)
+    (went_taken (world_of c.self-2.inside) c.in_ok-at.at _ c.index_mut.result.now
     (omega (arith, c.in_ok-at.ensures.found.1, known, many)) c.index_mut.ensures.value))

@@ -16,11 +16,13 @@ invariant_of-self c =
     let many = ap (λ (v : WorldValue). length v.slots) c.self.view_is in
     let whole = with_items_is c.self.inside.slots ys
     (step-long c.deref_mut.result.now ys c.args.at c.args.under c.pass_slots-answer.ensures.slots ∙ c.deref_mut.ensures.len) in
-    let s : SlotsStep c.args.dir c.args.limit c.args.mode c.args.at c.args.under c.pass_slots-answer.result.0 w.slots ys c.pass_slots-answer.result.1 =
+    let s : SlotsStep c.args.dir c.args.limit c.args.mode c.args.at c.args.under c.pass_slots-answer.result.0 w.slots ys
+    c.pass_slots-answer.result.1 =
     slots-step c.args.dir c.args.limit c.args.mode c.args.at c.args.under c.pass_slots-answer.result.0 w.slots c.deref_mut.result.now ys
     c.pass_slots-answer.result.1 c.deref_mut.ensures.value (omega (arith, c.requires.there, many)) c.requires.below
     c.pass_slots-answer.ensures.passed c.pass_slots-answer.ensures.slots in
-    subst (λ zs. Holds zs c.self.inside.due.pending c.self.inside.due.spare c.self.inside.spare (vec_capacity c.self.inside.slots)) (sym whole)
+    subst (λ zs. Holds zs c.self.inside.due.pending c.self.inside.due.spare c.self.inside.spare (vec_capacity c.self.inside.slots))
+    (sym whole)
     (holds-step c.args.dir c.args.limit c.args.mode c.args.at c.args.under c.pass_slots-answer.result.0 w ys c.pass_slots-answer.result.1 s
     c.self.inside.due.pending c.self.inside.due.spare c.self.invariant)
 
@@ -32,7 +34,8 @@ returns-clause-passed c =
     let many = ap (λ (v : WorldValue). length v.slots) c.self.view_is in
     let whole = with_items_is c.self.inside.slots ys
     (step-long c.deref_mut.result.now ys c.args.at c.args.under c.pass_slots-answer.ensures.slots ∙ c.deref_mut.ensures.len) in
-    let s : SlotsStep c.args.dir c.args.limit c.args.mode c.args.at c.args.under c.pass_slots-answer.result.0 w.slots ys c.pass_slots-answer.result.1 =
+    let s : SlotsStep c.args.dir c.args.limit c.args.mode c.args.at c.args.under c.pass_slots-answer.result.0 w.slots ys
+    c.pass_slots-answer.result.1 =
     slots-step c.args.dir c.args.limit c.args.mode c.args.at c.args.under c.pass_slots-answer.result.0 w.slots c.deref_mut.result.now ys
     c.pass_slots-answer.result.1 c.deref_mut.ensures.value (omega (arith, c.requires.there, many)) c.requires.below
     c.pass_slots-answer.ensures.passed c.pass_slots-answer.ensures.slots in
@@ -51,7 +54,8 @@ returns-clause-went c =
     let many = ap (λ (v : WorldValue). length v.slots) c.self.view_is in
     let whole = with_items_is c.self.inside.slots ys
     (step-long c.deref_mut.result.now ys c.args.at c.args.under c.pass_slots-answer.ensures.slots ∙ c.deref_mut.ensures.len) in
-    let s : SlotsStep c.args.dir c.args.limit c.args.mode c.args.at c.args.under c.pass_slots-answer.result.0 w.slots ys c.pass_slots-answer.result.1 =
+    let s : SlotsStep c.args.dir c.args.limit c.args.mode c.args.at c.args.under c.pass_slots-answer.result.0 w.slots ys
+    c.pass_slots-answer.result.1 =
     slots-step c.args.dir c.args.limit c.args.mode c.args.at c.args.under c.pass_slots-answer.result.0 w.slots c.deref_mut.result.now ys
     c.pass_slots-answer.result.1 c.deref_mut.ensures.value (omega (arith, c.requires.there, many)) c.requires.below
     c.pass_slots-answer.ensures.passed c.pass_slots-answer.ensures.slots in
@@ -59,7 +63,8 @@ returns-clause-went c =
     c.raise_if.ensures
     ∙ (let y = c.reason_of.ensures in λ i. raised_if c.pass_slots-answer.result.1 (record w { slots = whole i }) c.args.at (y i)) in
     subst (λ v. Went v new) c.self.view_is
-    (went-step c.args.dir c.args.limit c.args.mode c.args.at c.args.under c.pass_slots-answer.result.0 w ys c.pass_slots-answer.result.1 s new is)
+    (went-step c.args.dir c.args.limit c.args.mode c.args.at c.args.under c.pass_slots-answer.result.0 w ys c.pass_slots-answer.result.1
+    s new is)
 
 pub returns-clause-spare : goal.returns-clause-spare
 returns-clause-spare c =

@@ -24,7 +24,8 @@ invariant_of-self c =
     let s : StepIn c.args.dir c.args.limit c.args.at_end c.args.at c.args.under w.slots ys =
     step-in c.args.dir c.args.limit c.args.at_end c.args.at c.args.under w.slots c.deref_mut.result.now ys c.deref_mut.ensures.value
     there below c.step_slots.ensures.went c.step_slots.ensures.slots in
-    subst (λ zs. Holds zs c.self.inside.due.pending c.self.inside.due.spare c.self.inside.spare (vec_capacity c.self.inside.slots)) (sym whole)
+    subst (λ zs. Holds zs c.self.inside.due.pending c.self.inside.due.spare c.self.inside.spare (vec_capacity c.self.inside.slots))
+    (sym whole)
     (holds-stepped c.args.dir c.args.limit c.args.at_end c.args.at c.args.under w ys s c.self.inside.due.pending c.self.inside.due.spare
     c.self.inside.spare (vec_capacity c.self.inside.slots) c.self.invariant)
 
@@ -44,5 +45,6 @@ returns-clause-crossed c =
     there below c.step_slots.ensures.went c.step_slots.ensures.slots in
     let new : WorldValue = record w { slots = (with_items c.self.inside.slots ys).items } in
     subst (λ (v : WorldValue). Crossed c.args.dir
-    (stepping c.args.dir (crossing v c.args.dir c.args.at c.args.under) c.args.limit c.args.at_end) (crossing v c.args.dir c.args.at c.args.under) (crossing new c.args.dir c.args.at c.args.under)) c.self.view_is
+    (stepping c.args.dir (crossing v c.args.dir c.args.at c.args.under) c.args.limit c.args.at_end)
+    (crossing v c.args.dir c.args.at c.args.under) (crossing new c.args.dir c.args.at c.args.under)) c.self.view_is
     (crossed-stepped c.args.dir c.args.limit c.args.at_end c.args.at c.args.under w ys s new (ap (λ zs. record w { slots = zs }) whole))

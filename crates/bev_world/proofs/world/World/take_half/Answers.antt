@@ -11,8 +11,10 @@ returns-clause-ok c =
     let new : WorldValue = c.pass_on.new.self in
     let taken_is : c.take_first-taken.result ≡ min (length c.args.into.now) (length (bev_at w c.args.at).input.bytes) =
     c.take_first-taken.ensures.count
-    ∙ ap (λ bytes. min (length c.args.into.now) (length bytes)) (spared-bytes w w1 c.args.at _ c.requires.there c.reserve_at.ensures.stays) in
-    subst (λ n. new ≡ passed_on (shortened w c.args.at c.take_first-taken.result 0) c.args.other c.args.at n (bev_at new c.args.other).output.spare (bev_at new c.args.at).input.spare)
+    ∙ ap (λ bytes. min (length c.args.into.now) (length bytes))
+    (spared-bytes w w1 c.args.at _ c.requires.there c.reserve_at.ensures.stays) in
+    subst (λ n. new ≡ passed_on (shortened w c.args.at c.take_first-taken.result 0) c.args.other c.args.at n
+    (bev_at new c.args.other).output.spare (bev_at new c.args.at).input.spare)
     (c.in_ok-n.ensures.count ∙ ap (λ k. count_without w c.args.other c.args.at k) (sym taken_is))
     (took w c.args.at c.args.other c.in_ok-n.n c.requires.apart c.requires.there c.requires.other_there
     (bev_at new c.args.other).output.spare (bev_at new c.args.at).input.spare w1 c.take_first-taken.new.self new

@@ -12,6 +12,7 @@ pub returns-clause-went : goal.returns-clause-went
 returns-clause-went c =
     let w = world_of c.self.inside in
     let many = ap (λ (v : WorldValue). length v.slots) c.self.view_is in
-    rw (← c.self.view_is, c.raise.ensures) (went_raised _ _ c.in_ok-at.at (Event c.timed_out-flags.result) (went_bev w c.in_ok-at.at _ c.index_mut.result.now
+    rw (← c.self.view_is, c.raise.ensures)
+    (went_raised _ _ c.in_ok-at.at (Event c.timed_out-flags.result) (went_bev w c.in_ok-at.at _ c.index_mut.result.now
     c.timed_out-flags.new.bev (omega (arith, c.in_ok-at.ensures.found.1, many)) c.index_mut.ensures.value
     (ap (λ b. b.live) c.timed_out-flags.ensures.after ∙ live_enabled _ _ _)))

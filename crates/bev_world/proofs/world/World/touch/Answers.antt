@@ -12,4 +12,5 @@ returns-clause-went c =
     let w = world_of c.self.inside in
     let many = ap (λ (v : WorldValue). length v.slots) c.self.view_is in
     rw (← c.self.view_is) (went_bev w c.in_ok-at.at _ c.index_mut.result.now c.touch.new.self
-    (omega (arith, c.in_ok-at.ensures.found.1, many)) c.index_mut.ensures.value (ap (λ b. b.live) c.in_ok-touch.ensures.ok ∙ live_touched _ _ _))
+    (omega (arith, c.in_ok-at.ensures.found.1, many)) c.index_mut.ensures.value (ap (λ b. b.live) c.in_ok-touch.ensures.ok ∙
+    live_touched _ _ _))

@@ -8,7 +8,8 @@ pub returns-clause-ok : goal.returns-clause-ok
 returns-clause-ok c =
     let w : WorldValue = c.args.self.now in
     let new : WorldValue = c.pass_on.new.self in
-    subst (λ n. new ≡ passed_on (appended w c.args.at c.args.bytes.now 0) c.args.at c.args.other n (bev_at new c.args.at).output.spare (bev_at new c.args.other).input.spare)
+    subst (λ n. new ≡ passed_on (appended w c.args.at c.args.bytes.now 0) c.args.at c.args.other n (bev_at new c.args.at).output.spare
+    (bev_at new c.args.other).input.spare)
     c.in_ok-n.ensures.count
     (wrote w c.args.at c.args.other c.in_ok-n.n c.requires.apart c.requires.there c.requires.other_there
     (bev_at new c.args.at).output.spare (bev_at new c.args.other).input.spare c.reserve_at.new.self c.write_at.new.self new
