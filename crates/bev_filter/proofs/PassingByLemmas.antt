@@ -6,7 +6,7 @@ use Rattle.filter_model.specs.Filter.{Filter}
 use Rattle.stream_filters.specs.declared.stream_filter.Step.{Step}
 use Rattle.stream_filters.specs.declared.fault.FilterFault.TheVariants.{BadByte}
 use Rattle.stream_filters.specs.StepAnswers.{is_last}
-use Rattle.stream_filters.specs.StreamSteps.{Reached, Taken, taken, Steps, Tells, Comes, is_beyond}
+use Rattle.stream_filters.specs.StreamSteps.{Reached, Taken, taken, MakesStep, Tells, Comes, is_beyond}
 use Rattle.stream_filters.proofs.StreamShift.{taken-shift}
 use Rattle.bev_core.specs.BevValue.{BevValue}
 use Rattle.bev_core.specs.Steps.{held, with_held, more, less}
@@ -31,7 +31,8 @@ module _ {S : Type 0} (filter : S → Filter) (reached : S → Reached) (known :
       (is_last mode)
 
   crossed : (past : List ℕ) (used : ℕ) → used ≡ (step_of past).used →
-      Comes (known next) (step_of past) past src (reached next) target filled → Trades dir used bytes before.from before.to from_after to_after →
+      Comes (known next) (step_of past) past src (reached next) target filled →
+      Trades dir used bytes before.from before.to from_after to_after →
       CrossedBy reached known dir (step_of past) past before after
   crossed past used count comes trades =
       let made : bytes ≡ (step_of past).made = put ∙ comes.filled_by ∙ (λ i. empty i ++ (step_of past).made) in
@@ -44,7 +45,7 @@ module _ {S : Type 0} (filter : S → Filter) (reached : S → Reached) (known :
         knows = subst (λ z. known next (past ++ take (step_of past).used z)) all comes.knows;
       }
 
-  pub passed-on : (step : Step) → Steps filter reached known mode room src (Ok step) copy next target filled →
+  pub passed-on : (step : Step) → MakesStep filter reached known mode room src (Ok step) copy next target filled →
       Trades dir step.used bytes before.from before.to from_after to_after →
       PassesBy filter reached known dir limit mode (Ok step) before after
   passed-on step steps trades = record {
@@ -57,7 +58,7 @@ module _ {S : Type 0} (filter : S → Filter) (reached : S → Reached) (known :
     spent = steps.spent ∙ (λ i. is_beyond (reached (same i)) (length (all i)));
   }
 
-  pub passed-bad : (used place : ℕ) → Steps filter reached known mode room src (Err (BadByte used place)) copy next target filled →
+  pub passed-bad : (used place : ℕ) → MakesStep filter reached known mode room src (Err (BadByte used place)) copy next target filled →
       Trades dir used bytes before.from before.to from_after to_after →
       PassesBy filter reached known dir limit mode (Err (Bad place)) before after
   passed-bad used place steps trades = record {

@@ -56,7 +56,8 @@ pub record PassesBy {S : Type 0} (filter : S → Filter) (reached : S → Reache
   pub same : filter after.by ≡ filter before.by
   pub tells : (past : List ℕ) → known before.by past →
       TellsPassed reached known dir result
-      (taken (filter before.by) past (reached before.by) (is_last mode) limit (length (held before.to dir).bytes) (held before.from dir).bytes)
+      (taken (filter before.by) past (reached before.by) (is_last mode) limit
+      (length (held before.to dir).bytes) (held before.from dir).bytes)
       past before after
   pub refused : AllKept result before after
   pub spent : says_spent result ≡ is_beyond (reached before.by) (length (held before.from dir).bytes)

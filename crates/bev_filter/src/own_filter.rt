@@ -35,7 +35,9 @@ pub fn process_input_by<F: StreamFilter>(
     requires live { under.old.live ≡ true }
     requires over_live { over.old.live ≡ true }
     requires open { (F.reached filter.old).finished ≡ true → (under.old.input.bytes ≡ []) × (mode ≡ mode_of.Finished) }
-    ensures passes { PassesBy F.filter F.reached F.known dir_of.Read limit mode result (record { from = under.old; to = over.old; by = filter.old }) (record { from = under.new; to = over.new; by = filter.new }) }
+    ensures passes { PassesBy F.filter F.reached F.known dir_of.Read limit mode result
+        (record { from = under.old; to = over.old; by = filter.old })
+        (record { from = under.new; to = over.new; by = filter.new }) }
 {
     pass_by(under, over, Dir::Read, filter, limit, mode)
 }
@@ -55,7 +57,9 @@ pub fn process_output_by<F: StreamFilter>(
     requires live { under.old.live ≡ true }
     requires over_live { over.old.live ≡ true }
     requires open { (F.reached filter.old).finished ≡ true → (over.old.output.bytes ≡ []) × (mode ≡ mode_of.Finished) }
-    ensures passes { PassesBy F.filter F.reached F.known dir_of.Write limit mode result (record { from = over.old; to = under.old; by = filter.old }) (record { from = over.new; to = under.new; by = filter.new }) }
+    ensures passes { PassesBy F.filter F.reached F.known dir_of.Write limit mode result
+        (record { from = over.old; to = under.old; by = filter.old })
+        (record { from = over.new; to = under.new; by = filter.new }) }
 {
     pass_by(over, under, Dir::Write, filter, limit, mode)
 }
@@ -71,7 +75,9 @@ fn pass_by<F: StreamFilter>(
     mode: Mode,
 ) -> Result<Step, PassFault>
     requires open { (F.reached filter.old).finished ≡ true → ((held from.old dir).bytes ≡ []) × (mode ≡ mode_of.Finished) }
-    ensures passes { PassesBy F.filter F.reached F.known dir limit mode result (record { from = from.old; to = to.old; by = filter.old }) (record { from = from.new; to = to.new; by = filter.new }) }
+    ensures passes { PassesBy F.filter F.reached F.known dir limit mode result
+        (record { from = from.old; to = to.old; by = filter.old })
+        (record { from = from.new; to = to.new; by = filter.new }) }
 {
     let mut next = filter.copied();
     let mut made = Vec::new(from.allocator());

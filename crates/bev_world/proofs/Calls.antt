@@ -7,7 +7,7 @@ use Rattle.std.proofs.lemmas.Option.{none-some, same_Some}
 use Rattle.ev_types.specs.declared.memory.NoMemory.{NoMemory}
 use Rattle.ev_types.specs.declared.why.Why.{Why}
 use Rattle.deferred_cb.specs.DueCalls.{Call}
-use Rattle.bev_world.specs.Runs.{Did, Served, Called, Done, DoneShort, told_more, has_box, is_started}
+use Rattle.bev_world.specs.Runs.{MayDo, Served, Called, Done, DoneShort, told_more, has_box, is_started}
 use Rattle.bev_world.specs.WorldValue.{WorldValue, is_live}
 use Rattle.bev_world.specs.Went.{Went}
 
@@ -15,7 +15,7 @@ pub some-then : {A : Type 0} (b : Bool) (x y : A) → Some y ≡ then_some b x �
 some-then true x y h = (refl, same_Some y x h)
 some-then false x y h = absurd (none-some y (sym h))
 
-module _ {H : Type 0} (heard : H → Option (List Why)) (did : Did H) (old new : WorldValue)
+module _ {H : Type 0} (heard : H → Option (List Why)) (did : MayDo H) (old new : WorldValue)
     (serving retired serving1 serving2 retired2 : List (Option H)) (n : ℕ) (why : Why) (was box : H) where
   pub called-once : (live : Bool) (result : Result (Unit {0}) NoMemory) → slice_index_or serving n None ≡ Some was →
       Went old new → did was n why old new → OnOk result (heard box ≡ told_more (heard was) (why ∷ [])) →
@@ -44,7 +44,7 @@ module _ {H : Type 0} (heard : H → Option (List Why)) (did : Did H) (old new :
       put false p = p ∙ one
 
 -- a call that was started, by the number that its owner has
-module _ {H : Type 0} (heard : H → Option (List Why)) (did : Did H) (call : Call) (s left : Served H) (n : ℕ) (same : n ≡ call.0)
+module _ {H : Type 0} (heard : H → Option (List Why)) (did : MayDo H) (call : Call) (s left : Served H) (n : ℕ) (same : n ≡ call.0)
     (live : is_live s.world call.0 ≡ true) (there : has_box s.serving n ≡ true) where
   started-there : is_started s call ≡ true
   started-there =
@@ -52,7 +52,8 @@ module _ {H : Type 0} (heard : H → Option (List Why)) (did : Did H) (call : Ca
       ap (λ z. z && has_box s.serving call.0) live ∙ b
 
   at-owner : (ok b : Bool) → ok ≡ b → Called heard did ok (n, call.1) s left → Called heard did b call s left
-  at-owner ok b e called = subst (λ z. Called heard did b (z, call.1) s left) same (subst (λ z. Called heard did z (n, call.1) s left) e called)
+  at-owner ok b e called =
+      subst (λ z. Called heard did b (z, call.1) s left) same (subst (λ z. Called heard did z (n, call.1) s left) e called)
 
   pub done-started : (ok : Bool) → ok ≡ true → Called heard did ok (n, call.1) s left → Done heard did call s left
   done-started ok e called = subst (λ b. MatchBool b (Called heard did true call s left) (left ≡ s)) (sym started-there)

@@ -131,7 +131,8 @@ module _ (w : WorldValue) (n : ℕ) (live : is_live w n ≡ true) where
         | inr apart ↦ is_there m apart.1 ∙ h
       ]
 
-      same_filter : {Y : Type 0} (cs : List (ℕ × Y)) → filter (λ call. not (nat_eq n call.0)) cs ≡ filter (λ call. not (went_away w (freed_one w n) call.0)) cs
+      same_filter : {Y : Type 0} (cs : List (ℕ × Y)) →
+          filter (λ call. not (nat_eq n call.0)) cs ≡ filter (λ call. not (went_away w (freed_one w n) call.0)) cs
       same_filter [] = refl
       same_filter (c ∷ cs) = (let a = sym (away c.0) in let r = same_filter cs in λ i. if a i then c ∷ r i else r i)
 

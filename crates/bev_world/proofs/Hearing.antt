@@ -10,7 +10,7 @@ use Rattle.std.proofs.lemmas.Option.{none-some}
 use Rattle.ev_types.specs.declared.why.Why.{Why}
 use Rattle.deferred_cb.specs.DueCalls.{Call}
 use Rattle.bev_world.specs.Heard.{seat, heard_by, heard_of, Hears, HeardAll, HeardShort}
-use Rattle.bev_world.specs.Runs.{Did, Served, Called, Took, TookAll, RanAll, RanShort, is_started, taken_out, told_more}
+use Rattle.bev_world.specs.Runs.{MayDo, Served, Called, Took, TookAll, RanAll, RanShort, is_started, taken_out, told_more}
 use Rattle.bev_world.specs.WorldValue.{is_live}
 
 -- as many slots for those in service as for those taken out for good
@@ -30,7 +30,7 @@ told-then : (t : Option (List Why)) (xs ys : List Why) → told_more (told_more 
 told-then None xs ys = refl
 told-then (Some t) xs ys = ap Some (append_assoc t xs ys)
 
-module _ {H : Type 0} (heard : H → Option (List Why)) (did : Did H) where
+module _ {H : Type 0} (heard : H → Option (List Why)) (did : MayDo H) where
   hears-none : (o : Option H) → Hears heard o o []
   hears-none None = refl
   hears-none (Some h) = told-none (heard h)

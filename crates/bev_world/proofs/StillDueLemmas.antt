@@ -1,6 +1,6 @@
 -- What stays pending.
-use Rattle.std.proofs.Common.{◌≡◌, ◌<◌, ◌/◌, ◌%◌, ◌^◌, ◌==◌, ℕ, zero, suc, Bool, true, false, if◌then◌else◌, List, [], ◌∷◌, Option, Some, None}
-use Rattle.std.proofs.Common.{refl, ◌∙◌, ap, arith}
+use Rattle.std.proofs.Common.{◌≡◌, ◌<◌, ◌/◌, ◌%◌, ◌^◌, ◌==◌, ℕ, zero, suc, Bool, true, false, if◌then◌else◌, List, [], ◌∷◌}
+use Rattle.std.proofs.Common.{Option, Some, None, refl, ◌∙◌, ap, arith}
 use Rattle.std.specs.Prelude.{filter, nat_eq, bit_or, is_some}
 use Rattle.std.proofs.lemmas.Bool.Decides.{nat_tests}
 use Rattle.std.proofs.lemmas.Nat.{or_shr, or_mod}
@@ -37,7 +37,8 @@ flags-joined (Some before) flags k h =
     let both : bit_or before.0 flags.0 / 2 ^ k % 2 ≡ bit_or (before.0 / 2 ^ k % 2) (flags.0 / 2 ^ k % 2) =
     ap (λ n. n % 2) (or_shr before.0 flags.0 k) ∙ or_mod (before.0 / 2 ^ k) (flags.0 / 2 ^ k) 1 in
     let small : flags.0 / 2 ^ k % 2 < 2 = omega arith in
-    let one : bit_or before.0 flags.0 / 2 ^ k % 2 ≡ 1 = both ∙ ap (λ n. bit_or n (flags.0 / 2 ^ k % 2)) bit ∙ or-one (flags.0 / 2 ^ k % 2) small in
+    let one : bit_or before.0 flags.0 / 2 ^ k % 2 ≡ 1 =
+    both ∙ ap (λ n. bit_or n (flags.0 / 2 ^ k % 2)) bit ∙ or-one (flags.0 / 2 ^ k % 2) small in
     ap (λ n. n == 1) one
 
 event-joined : (before : Option Flags) (flags : Flags) → is_some (joined_flags before flags) ≡ true
@@ -45,10 +46,14 @@ event-joined None flags = refl
 event-joined (Some before) flags = refl
 
 reasons-joined : (r : Reasons) (y : Why) → KeepsReasons r (joined r y)
-reasons-joined r why.Connected = record { connected = λ h. refl; read = λ h. h; write = λ h. h; event = λ h. h; flags = λ k h. h; timer = λ h. h }
-reasons-joined r why.Read = record { connected = λ h. h; read = λ h. refl; write = λ h. h; event = λ h. h; flags = λ k h. h; timer = λ h. h }
-reasons-joined r why.Write = record { connected = λ h. h; read = λ h. h; write = λ h. refl; event = λ h. h; flags = λ k h. h; timer = λ h. h }
-reasons-joined r why.Timer = record { connected = λ h. h; read = λ h. h; write = λ h. h; event = λ h. h; flags = λ k h. h; timer = λ h. refl }
+reasons-joined r why.Connected =
+    record { connected = λ h. refl; read = λ h. h; write = λ h. h; event = λ h. h; flags = λ k h. h; timer = λ h. h }
+reasons-joined r why.Read =
+    record { connected = λ h. h; read = λ h. refl; write = λ h. h; event = λ h. h; flags = λ k h. h; timer = λ h. h }
+reasons-joined r why.Write =
+    record { connected = λ h. h; read = λ h. h; write = λ h. refl; event = λ h. h; flags = λ k h. h; timer = λ h. h }
+reasons-joined r why.Timer =
+    record { connected = λ h. h; read = λ h. h; write = λ h. h; event = λ h. h; flags = λ k h. h; timer = λ h. refl }
 reasons-joined r (why.Event flags) = record {
   connected = λ h. h;
   read = λ h. h;

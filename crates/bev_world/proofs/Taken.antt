@@ -7,12 +7,12 @@ use Rattle.std.proofs.lemmas.List.Sums.{sum_by-append}
 use Rattle.ev_types.specs.declared.why.Why.{Why}
 use Rattle.deferred_cb.specs.DueCalls.{Call, all_calls}
 use Rattle.bev_world.specs.Batches.{batch_begun}
-use Rattle.bev_world.specs.Runs.{Did, Served, Called, Done, DoneShort, Took, TookAll, RanAll, RanShort, is_started, started}
+use Rattle.bev_world.specs.Runs.{MayDo, Served, Called, Done, DoneShort, Took, TookAll, RanAll, RanShort, is_started, started}
 use Rattle.bev_world.specs.WorldValue.{WorldValue}
 use Rattle.bev_world.specs.Went.{Went}
 
 -- a batch begins at s, and so many of its calls were started so far
-pub record RanSome {H : Type 0} (heard : H → Option (List Why)) (did : Did H) (n : ℕ) (s new : Served H) : Type 0 where
+pub record RanSome {H : Type 0} (heard : H → Option (List Why)) (did : MayDo H) (n : ℕ) (s new : Served H) : Type 0 where
   pub calls : List (Call × Bool)
   pub took : TookAll heard did calls (record s { world = batch_begun s.world }) new
   pub many : n ≡ min (started calls) (2 ^ 32 - 1)
@@ -40,7 +40,7 @@ went-keeps old new went = record {
   slots = went.known;
 }
 
-pub done-keeps : {H : Type 0} (heard : H → Option (List Why)) (did : Did H) (call : Call) (s new : Served H) → Done heard did call s new →
+pub done-keeps : {H : Type 0} (heard : H → Option (List Why)) (did : MayDo H) (call : Call) (s new : Served H) → Done heard did call s new →
     Keeps s.world new.world
 done-keeps {H} heard did call s new done = by (is_started s call) done
   where
@@ -48,7 +48,7 @@ done-keeps {H} heard did call s new done = by (is_started s call) done
     by true called = went-keeps s.world new.world called.went
     by false e = subst (λ z. Keeps s.world z.world) (sym e) (record { cut = refl; batch = omega arith; slots = omega arith })
 
-took-push : {H : Type 0} (heard : H → Option (List Why)) (did : Did H) (s m u : Served H) (cs : List (Call × Bool)) (call : Call) →
+took-push : {H : Type 0} (heard : H → Option (List Why)) (did : MayDo H) (s m u : Served H) (cs : List (Call × Bool)) (call : Call) →
     TookAll heard did cs s m → Took heard did call m u → TookAll heard did (cs ++ (call, is_started m call) ∷ []) s u
 took-push heard did s m u [] call e took = (u, ap (λ z. is_started z call) e, subst (λ z. Took heard did call z u) e took, refl)
 took-push heard did s m u (c ∷ cs) call h took = (h.0, h.1, h.2, took-push heard did h.0 m u cs call h.3 took)
@@ -76,7 +76,8 @@ begun-slots w = by w.cut
     by true = refl
     by false = refl
 
-pub ran-none : {H : Type 0} (heard : H → Option (List Why)) (did : Did H) (s new : Served H) → new ≡ record s { world = batch_begun s.world } →
+pub ran-none : {H : Type 0} (heard : H → Option (List Why)) (did : MayDo H) (s new : Served H) →
+    new ≡ record s { world = batch_begun s.world } →
     RanSome heard did 0 s new
 ran-none heard did s new e = record {
   calls = [];
@@ -87,12 +88,13 @@ ran-none heard did s new e = record {
 }
 
 -- a call is taken out of a batch, and done
-pub batch-shrinks : {H : Type 0} (heard : H → Option (List Why)) (did : Did H) (call : Call) (s new : Served H) (batch : List Call) →
+pub batch-shrinks : {H : Type 0} (heard : H → Option (List Why)) (did : MayDo H) (call : Call) (s new : Served H) (batch : List Call) →
     batch ≡ call ∷ s.world.batch → Done heard did call s new → length new.world.batch < length batch
-batch-shrinks heard did call s new batch first done = let a = ap length first in let b = (done-keeps heard did call s new done).batch in omega arith
+batch-shrinks heard did call s new batch first done =
+    let a = ap length first in let b = (done-keeps heard did call s new done).batch in omega arith
 
 -- the next call is taken out of the batch
-module _ {H : Type 0} (heard : H → Option (List Why)) (did : Did H) (s m u : Served H) (w : WorldValue) (call : Call)
+module _ {H : Type 0} (heard : H → Option (List Why)) (did : MayDo H) (s m u : Served H) (w : WorldValue) (call : Call)
     (first : m.world.batch ≡ call ∷ w.batch) (others : w ≡ record m.world { batch = w.batch })
     (done : Done heard did call (record m { world = w }) u) where
   pub ran-more : (n : ℕ) (b : Bool) (next : ℕ) → RanSome heard did n s m → b ≡ is_started (record m { world = w }) call →
@@ -116,7 +118,8 @@ module _ {H : Type 0} (heard : H → Option (List Why)) (did : Did H) (s m u : S
         known = let a = ap (λ z. length z.slots) others in let b = keeps.slots in let k = ran.known in omega arith;
       }
 
-module _ {H : Type 0} (heard : H → Option (List Why)) (did : Did H) (s m : Served H) (w : WorldValue) (n : ℕ) (ran : RanSome heard did n s m)
+module _ {H : Type 0} (heard : H → Option (List Why)) (did : MayDo H) (s m : Served H) (w : WorldValue)
+    (n : ℕ) (ran : RanSome heard did n s m)
     (others : w ≡ record m.world { batch = w.batch }) where
   -- its box wanted memory
   pub ran-short : (u : Served H) (call : Call) → m.world.batch ≡ call ∷ w.batch →

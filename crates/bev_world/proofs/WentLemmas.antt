@@ -32,20 +32,23 @@ went_none w = record {
   kinds = λ n lt. refl;
   freed = λ n h. h;
   batch = sym (all-stay (λ call. not (went_away w w call.0)) (λ c. ap not (and-not (is_freed w c.0))) w.batch);
-  pending = subst (λ es. StillDue es w.pending) (sym (all-stay (λ e. not (went_away w w e.0)) (λ e. ap not (and-not (is_freed w e.0))) w.pending))
+  pending = subst (λ es. StillDue es w.pending)
+      (sym (all-stay (λ e. not (went_away w w e.0)) (λ e. ap not (and-not (is_freed w e.0))) w.pending))
       (still-same w.pending);
   cut = refl;
 }
 
 -- nothing was freed: the same numbers with the same kinds, and freed as before
 pub went_same : (old new : WorldValue) → length new.slots ≡ length old.slots → ((n : ℕ) → (slot_at new n).kind ≡ (slot_at old n).kind) →
-    ((n : ℕ) → (slot_at new n).bev.live ≡ (slot_at old n).bev.live) → new.batch ≡ old.batch → StillDue old.pending new.pending → new.cut ≡ old.cut → Went old new
+    ((n : ℕ) → (slot_at new n).bev.live ≡ (slot_at old n).bev.live) → new.batch ≡ old.batch →
+    StillDue old.pending new.pending → new.cut ≡ old.cut → Went old new
 went_same old new many kinds lives batch pending cut = record {
   known = omega (arith, many);
   kinds = λ n lt. kinds n;
   freed = λ n h. same n ∙ h;
   batch = batch ∙ sym (all-stay (λ call. not (went_away old new call.0)) (λ c. ap not (stays c.0)) old.batch);
-  pending = subst (λ es. StillDue es new.pending) (sym (all-stay (λ e. not (went_away old new e.0)) (λ e. ap not (stays e.0)) old.pending)) pending;
+  pending = subst (λ es. StillDue es new.pending)
+      (sym (all-stay (λ e. not (went_away old new e.0)) (λ e. ap not (stays e.0)) old.pending)) pending;
   cut = cut;
 }
   where
@@ -59,7 +62,8 @@ went_same old new many kinds lives batch pending cut = record {
 pub went_set : (w : WorldValue) (n : ℕ) (s : Slot) → n < length w.slots → s.kind ≡ (slot_at w n).kind →
     s.bev.live ≡ (slot_at w n).bev.live → Went w (with_slot w n s)
 went_set w n s within kind live =
-    went_same w (with_slot w n s) (length-set w.slots n s) (λ m. part (λ z. z.kind) kind m) (λ m. part (λ z. z.bev.live) live m) refl (still-same w.pending) refl
+    went_same w (with_slot w n s) (length-set w.slots n s) (λ m. part (λ z. z.kind) kind m)
+    (λ m. part (λ z. z.bev.live) live m) refl (still-same w.pending) refl
   where
     part : {A : Type 0} (f : Slot → A) → f s ≡ f (slot_at w n) → (m : ℕ) → f (slot_at (with_slot w n s) m) ≡ f (slot_at w m)
     part f same m = elim (eqb_tells m n) [
@@ -123,7 +127,8 @@ went_raised a b n y h = record {
   kinds = h.kinds;
   freed = h.freed;
   batch = h.batch;
-  pending = still-then (filter (λ e. not (went_away a b e.0)) a.pending) b.pending (with_reason n y b.pending) h.pending (still-raised n y b.pending);
+  pending = still-then (filter (λ e. not (went_away a b e.0)) a.pending) b.pending (with_reason n y b.pending) h.pending
+      (still-raised n y b.pending);
   cut = h.cut;
 }
 

@@ -6,7 +6,7 @@ use Rattle.std.specs.Option.{option_or}
 use Rattle.ev_types.specs.declared.why.Why.{Why}
 use Rattle.deferred_cb.specs.DueCalls.{Call}
 use Rattle.bev_world.specs.declared.fault.WorldFault.{WorldFault}
-use Rattle.bev_world.specs.Runs.{Did, Served, box_at, told_more, RanAll, RanShort}
+use Rattle.bev_world.specs.Runs.{MayDo, Served, box_at, told_more, RanAll, RanShort}
 
 -- the box of a number, in its slot or taken out for good
 abbrev pub seat : {H : Type 0} → Served H → ℕ → Option H
@@ -25,16 +25,16 @@ abbrev pub Hears : {H : Type 0} → (H → Option (List Why)) → Option H → O
 Hears heard old new more = MatchOption old (new ≡ None) (λ was. IsSomeAnd new (λ box. heard box ≡ told_more (heard was) more))
 
 -- A batch was run to its end, and the box of every number heard the reasons of its started calls, in their order.
-pub record HeardAll {H : Type 0} (heard : H → Option (List Why)) (did : Did H) (n : ℕ) (s new : Served H) : Type 0 where
+pub record HeardAll {H : Type 0} (heard : H → Option (List Why)) (did : MayDo H) (n : ℕ) (s new : Served H) : Type 0 where
   pub ran : RanAll heard did n s new
   pub hears : (number : ℕ) → Hears heard (seat s number) (seat new number) (heard_of number ran.calls)
 
 -- A batch was cut off, and so did the box of every number, but that of the call whose box wanted memory.
-pub record HeardShort {H : Type 0} (heard : H → Option (List Why)) (did : Did H) (s new : Served H) : Type 0 where
+pub record HeardShort {H : Type 0} (heard : H → Option (List Why)) (did : MayDo H) (s new : Served H) : Type 0 where
   pub ran : RanShort heard did s new
   pub hears : (number : ℕ) → number ≢ ran.last.0 → Hears heard (seat s number) (seat new number) (heard_of number ran.calls)
 
 -- what the boxes heard of a run, by its answer
-abbrev pub HeardRun : {H : Type 0} → (H → Option (List Why)) → Did H → Result ℕ WorldFault → Served H → Served H → Type 0
+abbrev pub HeardRun : {H : Type 0} → (H → Option (List Why)) → MayDo H → Result ℕ WorldFault → Served H → Served H → Type 0
 HeardRun heard did (Ok n) s new = HeardAll heard did n s new
 HeardRun heard did (Err fault) s new = HeardShort heard did s new

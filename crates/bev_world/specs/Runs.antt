@@ -48,13 +48,13 @@ abbrev pub taken_out : {H : Type 0} → Served H → List Call → Served H
 taken_out s rest = record s { world = record s.world { batch = rest } }
 
 -- what boxes may do, as they tell it: to the world before, called at this number for this reason, so that the world is this one after
-abbrev pub Did : Type 0 → Type 1
-Did H = H → ℕ → Why → WorldValue → WorldValue → Type 0
+abbrev pub MayDo : Type 0 → Type 1
+MayDo H = H → ℕ → Why → WorldValue → WorldValue → Type 0
 
 -- The box of a call was called: it was out of its slot, heard the reason where it answers Ok, and lies where it belongs: in its
 -- slot, where its bufferevent is live then, and else among those that were taken out for good. The world is what the box made of it,
 -- and nothing else was done.
-pub record Called {H : Type 0} (heard : H → Option (List Why)) (did : Did H) (ok : Bool) (call : Call) (s new : Served H) : Type 0 where
+pub record Called {H : Type 0} (heard : H → Option (List Why)) (did : MayDo H) (ok : Bool) (call : Call) (s new : Served H) : Type 0 where
   pub was : H
   pub box : H
   pub there : box_at s.serving call.0 ≡ Some was
@@ -65,40 +65,41 @@ pub record Called {H : Type 0} (heard : H → Option (List Why)) (did : Did H) (
   pub retired : new.retired ≡ (if is_live new.world call.0 then s.retired else slice_set s.retired call.0 (Some box))
 
 -- a call that is out of the batch was started where it is to be, and else nothing was done
-abbrev pub Done : {H : Type 0} → (H → Option (List Why)) → Did H → Call → Served H → Served H → Type 0
+abbrev pub Done : {H : Type 0} → (H → Option (List Why)) → MayDo H → Call → Served H → Served H → Type 0
 Done heard did call s new = MatchBool (is_started s call) (Called heard did true call s new) (new ≡ s)
 
 -- A call that is out of the batch was started, and its box wanted memory: the batch is cut off behind that call.
-pub record DoneShort {H : Type 0} (heard : H → Option (List Why)) (did : Did H) (call : Call) (s new : Served H) : Type 0 where
+pub record DoneShort {H : Type 0} (heard : H → Option (List Why)) (did : MayDo H) (call : Call) (s new : Served H) : Type 0 where
   pub left : Served H
   pub start : is_started s call ≡ true
   pub called : Called heard did false call s left
   pub cut : new ≡ record left { world = record left.world { cut = true } }
 
 -- the first call of the batch was taken, and started where it is to be
-pub record Took {H : Type 0} (heard : H → Option (List Why)) (did : Did H) (call : Call) (s new : Served H) : Type 0 where
+pub record Took {H : Type 0} (heard : H → Option (List Why)) (did : MayDo H) (call : Call) (s new : Served H) : Type 0 where
   pub rest : List Call
   pub first : s.world.batch ≡ call ∷ rest
   pub done : Done heard did call (taken_out s rest) new
 
 -- Calls of the batch were taken one after the other. Each stands beside whether it was started.
-abbrev pub TookAll : {H : Type 0} → (H → Option (List Why)) → Did H → List (Call × Bool) → Served H → Served H → Type 0
+abbrev pub TookAll : {H : Type 0} → (H → Option (List Why)) → MayDo H → List (Call × Bool) → Served H → Served H → Type 0
 TookAll heard did [] s new = new ≡ s
-TookAll {H = H} heard did (c ∷ cs) s new = (mid : Served H) × (c.1 ≡ is_started s c.0) × Took heard did c.0 s mid × TookAll heard did cs mid new
+TookAll {H = H} heard did (c ∷ cs) s new =
+    (mid : Served H) × (c.1 ≡ is_started s c.0) × Took heard did c.0 s mid × TookAll heard did cs mid new
 
 -- how many of them were started
 abbrev pub started : List (Call × Bool) → ℕ
 started cs = count_by (λ c. c.1) cs
 
 -- The batch was run to its end: all its calls were taken, and the answer is how many were started, up to the greatest u32.
-pub record RanAll {H : Type 0} (heard : H → Option (List Why)) (did : Did H) (n : ℕ) (s new : Served H) : Type 0 where
+pub record RanAll {H : Type 0} (heard : H → Option (List Why)) (did : MayDo H) (n : ℕ) (s new : Served H) : Type 0 where
   pub calls : List (Call × Bool)
   pub took : TookAll heard did calls (record s { world = batch_begun s.world }) new
   pub over : new.world.batch ≡ []
   pub many : n ≡ min (started calls) (2 ^ 32 - 1)
 
 -- The box of a call wanted memory: the batch ends behind that call, and its rest is left.
-pub record RanShort {H : Type 0} (heard : H → Option (List Why)) (did : Did H) (s new : Served H) : Type 0 where
+pub record RanShort {H : Type 0} (heard : H → Option (List Why)) (did : MayDo H) (s new : Served H) : Type 0 where
   pub calls : List (Call × Bool)
   pub last : Call
   pub rest : List Call
@@ -108,6 +109,6 @@ pub record RanShort {H : Type 0} (heard : H → Option (List Why)) (did : Did H)
   pub short : DoneShort heard did last (taken_out mid rest) new
 
 -- the run of a batch, by its answer
-abbrev pub Ran : {H : Type 0} → (H → Option (List Why)) → Did H → Result ℕ WorldFault → Served H → Served H → Type 0
+abbrev pub Ran : {H : Type 0} → (H → Option (List Why)) → MayDo H → Result ℕ WorldFault → Served H → Served H → Type 0
 Ran heard did (Ok n) s new = RanAll heard did n s new
 Ran heard did (Err fault) s new = (fault ≡ Memory) × RanShort heard did s new

@@ -47,8 +47,9 @@ impl Roster {
         has_box(&self.serving, id) || has_box(&self.retired, id)
     }
 
-    /// Gives a bufferevent its box, which has heard nothing. It is asked that it was given none. Refused for want of memory; then each number has the box that it had.
-    /// The cost is in the number of the bufferevent, where it is the greatest so far, and else constant.
+    /// Gives a bufferevent its box, which has heard nothing. It is asked that it was given none. Refused for want of memory;
+    /// then each number has the box that it had. The cost is in the number of the bufferevent, where it is the greatest so
+    /// far, and else constant.
     ///
     /// Own.
     pub fn give(&mut self, id: BevId, call: Box<dyn Callback>) -> Result<(), NoMemory>
@@ -146,7 +147,8 @@ fn start(world: &mut World, roster: &mut Roster, id: BevId, why: Why) -> Result<
     requires live { is_live world.old id.0 ≡ true }
     requires there { has_box roster.old.serving.items id.0 ≡ true }
     requires kept { IsLevel roster.old }
-    ensures called { Called (λ b. heard b) (λ b. may_do b) (is_ok result) (id.0, why) (served world.old roster.old) (served world.new roster.new) }
+    ensures called { Called (λ b. heard b) (λ b. may_do b) (is_ok result) (id.0, why)
+        (served world.old roster.old) (served world.new roster.new) }
     ensures kept { IsLevel roster.new }
 {
     let mut call = take_box(&mut roster.serving, id);
@@ -166,9 +168,11 @@ fn serve_call(
 ) -> Result<bool, WorldFault>
     requires kept { IsLevel roster.old }
     ensures started { IfOk result (λ started. started ≡ is_started (served world.old roster.old) (owner, why)) }
-    ensures done { OnOk result (Done (λ b. heard b) (λ b. may_do b) (owner, why) (served world.old roster.old) (served world.new roster.new)) }
+    ensures done { OnOk result (Done (λ b. heard b) (λ b. may_do b) (owner, why)
+        (served world.old roster.old) (served world.new roster.new)) }
     ensures fault { IfErr result (λ fault. fault ≡ Memory) }
-    ensures short { OnErr result (DoneShort (λ b. heard b) (λ b. may_do b) (owner, why) (served world.old roster.old) (served world.new roster.new)) }
+    ensures short { OnErr result (DoneShort (λ b. heard b) (λ b. may_do b) (owner, why)
+        (served world.old roster.old) (served world.new roster.new)) }
     ensures kept { IsLevel roster.new }
 {
     let Some(id) = world.live_id(owner) else {

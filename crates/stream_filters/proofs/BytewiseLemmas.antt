@@ -1,6 +1,7 @@
 -- A step of a filter that gives for each byte something of its own, for the proof of one's own.
-use Rattle.std.proofs.Common.{◌≡◌, ℕ, zero, suc, ◌+◌, ◌<◌, ◌≤◌, Bool, true, false, not, ◌==◌, ◌&&◌, ◌||◌, if◌then◌else◌, List, [], ◌∷◌, ◌++◌}
-use Rattle.std.proofs.Common.{length, take, Option, Some, None, Ok, refl, sym, ◌∙◌, ap, subst, arith, length-append, append-nil}
+use Rattle.std.proofs.Common.{◌≡◌, ℕ, zero, suc, ◌+◌, ◌<◌, ◌≤◌, Bool, true, false, not, ◌==◌, ◌&&◌, ◌||◌, if◌then◌else◌}
+use Rattle.std.proofs.Common.{List, [], ◌∷◌, ◌++◌, length, take, Option, Some, None, Ok}
+use Rattle.std.proofs.Common.{refl, sym, ◌∙◌, ap, subst, arith, length-append, append-nil}
 use Rattle.std.specs.Prelude.{is_some, nat_le, nat_lt, ◌^◌}
 use Rattle.std.specs.List.{flat_map}
 use Rattle.std.proofs.lemmas.Bool.Decides.{nat_tests}
@@ -12,7 +13,7 @@ use Rattle.filter_model.proofs.RunningLemmas.{holds-none}
 use Rattle.stream_filters.specs.declared.stream_filter.Step.{Step}
 use Rattle.stream_filters.specs.StepAnswers.{is_last}
 use Rattle.stream_filters.specs.Bytewise.{bytewise, more-bytewise, GivesBytes}
-use Rattle.stream_filters.specs.StreamSteps.{Reached, held_after, must_end, use_count, Taken, taking, taken, Tells, Steps}
+use Rattle.stream_filters.specs.StreamSteps.{Reached, held_after, must_end, use_count, Taken, taking, taken, Tells, MakesStep}
 
 -- the first place at which a test holds
 pub first-at : (stop : ℕ → Bool) (n left m : ℕ) → m ≤ left → ((j : ℕ) → j < m → stop (n + j) ≡ false) → (m < left → stop (n + m) ≡ true) →
@@ -111,10 +112,14 @@ module _ {S : Type 0} (give : ℕ → List ℕ) (reached : S → Reached) (known
   -- used and the stream ends behind them.
   pub bytewise-steps : (step : Step) → (reached before).finished ≡ false → (reached before).stopped ≡ None →
       GivesBytes give limit src target filled step.used →
-      reached after ≡ record { used = (reached before).used + step.used; finished = is_last mode && (step.used == length src); stopped = None } →
+      reached after ≡ record {
+        used = (reached before).used + step.used;
+        finished = is_last mode && (step.used == length src);
+        stopped = None;
+      } →
       step.finished ≡ (is_last mode && (step.used == length src)) →
       ((past : List ℕ) → known before past → known after (past ++ take step.used src)) → (reached before).used + length src < 2 ^ 64 →
-      Steps (λ _. bytewise give) reached known mode limit src (Ok step) before after target filled
+      MakesStep (λ _. bytewise give) reached known mode limit src (Ok step) before after target filled
   bytewise-steps step going unstopped gives came finished knows fits = record {
     same = refl;
     tells = λ past k.
@@ -141,11 +146,12 @@ module _ {S : Type 0} (give : ℕ → List ℕ) (reached : S → Reached) (known
 -- a step of a filter that is finished
 pub finished-steps : {S : Type 0} (filter : S → Filter) (reached : S → Reached) (known : S → List ℕ → Type 0) (mode : Mode) (limit : ℕ)
     (src target : List ℕ) (x : S) (step : Step) → (reached x).finished ≡ true → (reached x).stopped ≡ None → step.used ≡ 0 →
-    step.finished ≡ true → Steps filter reached known mode limit src (Ok step) x x target target
+    step.finished ≡ true → MakesStep filter reached known mode limit src (Ok step) x x target target
 finished-steps filter reached known mode limit src target x step done unstopped none says = record {
   same = refl;
   tells = λ past k.
-      let t : taken (filter x) past (reached x) (is_last mode) limit (length target) src ≡ record { used = 0; made = []; reached = reached x } =
+      let t : taken (filter x) past (reached x) (is_last mode) limit (length target) src
+      ≡ record { used = 0; made = []; reached = reached x } =
       ap (λ b. if b || is_some (reached x).stopped then record { used = 0; made = []; reached = reached x }
       else taking (filter x) past src (is_last mode) limit (length target) (use_count (filter x) past src limit (length target))) done in
       subst (λ t. Tells (Ok step) (known x) t past src (reached x) target target) (sym t) (

@@ -18,7 +18,7 @@ use Rattle.stream_filters.specs.declared.fault.FilterFault.{FilterFault}
 use Rattle.stream_filters.specs.declared.fault.FilterFault.TheVariants.{Memory, BadByte, Spent}
 use Rattle.stream_filters.specs.House.{MayHaveUsed, definition, reach}
 use Rattle.stream_filters.specs.StepAnswers.{Answers, is_last, is_spent, says_spent}
-use Rattle.stream_filters.specs.StreamSteps.{held_after, must_end, use_count, Taken, taking, taken, Tells, KeptIfRefused, Steps}
+use Rattle.stream_filters.specs.StreamSteps.{held_after, must_end, use_count, Taken, taking, taken, Tells, KeptIfRefused, MakesStep}
 
 -- a place that is counted from a later one on
 first_from-shift : (stop : ℕ → Bool) (n m left : ℕ) → first_from stop (n + m) left ≡ n + first_from (λ j. stop (n + j)) m left
@@ -237,7 +237,8 @@ module _ (x after : Running) (mode : Mode) (limit : ℕ) (src target filled : Li
   abbrev step_made : Stepped
   step_made = stepped x (is_last mode) limit (length target) src
 
-  answer-tells : (result : Result Step FilterFault) → Answers result step_made x after target filled → (past : List ℕ) → MayHaveUsed x past →
+  answer-tells : (result : Result Step FilterFault) → Answers result step_made x after target filled →
+      (past : List ℕ) → MayHaveUsed x past →
       Tells result (MayHaveUsed after) (taken (definition x) past (reach x) (is_last mode) limit (length target) src) past src
       (reach after) target filled
   answer-tells (Ok step) h past a =
@@ -264,7 +265,8 @@ module _ (x after : Running) (mode : Mode) (limit : ℕ) (src target filled : Li
   answer-tells (Err Memory) h past a = _
   answer-tells (Err Spent) h past a = _
 
-  answer-keeps : (result : Result Step FilterFault) → Answers result step_made x after target filled → KeptIfRefused result x after target filled
+  answer-keeps : (result : Result Step FilterFault) → Answers result step_made x after target filled →
+      KeptIfRefused result x after target filled
   answer-keeps (Ok step) h = _
   answer-keeps (Err (BadByte used place)) h = _
   answer-keeps (Err Memory) h = h
@@ -272,7 +274,7 @@ module _ (x after : Running) (mode : Mode) (limit : ℕ) (src target filled : Li
 
   pub house-steps : (result : Result Step FilterFault) → Answers result step_made x after target filled → after.kind ≡ x.kind →
       says_spent result ≡ is_spent x (length src) →
-      Steps definition reach MayHaveUsed mode limit src result x after target filled
+      MakesStep definition reach MayHaveUsed mode limit src result x after target filled
   house-steps result h kind spent = record {
     same = ap filter_of kind;
     tells = answer-tells result h;

@@ -1,6 +1,7 @@
 -- Pairs of hex digits in a row.
-use Rattle.std.proofs.Common.{◌≡◌, ℕ, zero, suc, ◌+◌, ◌*◌, ◌%◌, ◌<◌, ◌≤◌, Bool, true, false, not, ◌==◌, ◌&&◌, if◌then◌else◌, List, [], ◌∷◌, ◌++◌}
-use Rattle.std.proofs.Common.{length, take, drop, Option, Some, None, refl, sym, ◌∙◌, ap, subst, arith, length-append, append_assoc, append-nil}
+use Rattle.std.proofs.Common.{◌≡◌, ℕ, zero, suc, ◌+◌, ◌*◌, ◌%◌, ◌<◌, ◌≤◌, Bool, true, false, not, ◌==◌, ◌&&◌, if◌then◌else◌}
+use Rattle.std.proofs.Common.{List, [], ◌∷◌, ◌++◌, length, take, drop, Option, Some, None}
+use Rattle.std.proofs.Common.{refl, sym, ◌∙◌, ap, subst, arith, length-append, append_assoc, append-nil}
 use Rattle.std.specs.Prelude.{slice_index, unwrap_or}
 use Rattle.std.specs.List.{last_or}
 use Rattle.std.proofs.lemmas.Bool.Decides.{nat_tests}
@@ -39,7 +40,8 @@ hex_in-push x y (ArePairs.pair {x = p} {y = q} {xs = xs} c d rest) a b =
     ∙ ap (λ z. z ++ value_of x y ∷ []) (sym (hex_in-pair p q xs c d))
 
 -- the last byte of pairs of digits is a digit
-last-pairs : {m : ℕ} {xs : List ℕ} (last : Option ℕ) → IsDigitLast kind.HexIn last → ArePairs m xs → IsDigitLast kind.HexIn (last_or last xs)
+last-pairs : {m : ℕ} {xs : List ℕ} (last : Option ℕ) → IsDigitLast kind.HexIn last → ArePairs m xs →
+    IsDigitLast kind.HexIn (last_or last xs)
 last-pairs last h ArePairs.no_pairs = h
 last-pairs last h (ArePairs.pair {y = y} {xs = xs} a b rest) = last-pairs (Some y) (one y b) rest
   where
@@ -117,7 +119,8 @@ module _ (limit count : ℕ) (last : Option ℕ) (src old : List ℕ) (even : co
 
   -- one pair more, with the room that it needs
   module _ (new : List ℕ) (used capacity x y : ℕ) (r : ReadsPairs limit src old new used) (first : slice_index src used ≡ x)
-      (second : slice_index src (used + 1) ≡ y) (a : is_hex x ≡ true) (b : is_hex y ≡ true) (within : used + 1 < length src) (below : length new < limit) where
+      (second : slice_index src (used + 1) ≡ y) (a : is_hex x ≡ true) (b : is_hex y ≡ true)
+      (within : used + 1 < length src) (below : length new < limit) where
     two : take (used + 2) src ≡ take used src ++ x ∷ y ∷ []
     two =
         let s : used + 2 ≡ used + 1 + 1 = omega arith in

@@ -1,11 +1,12 @@
 -- How a step of a filter answers.
-use Rattle.std.specs.Prelude.{◌≡◌, ℕ, ◌+◌, ◌-◌, min, nat_le, if◌then◌else◌, ◌^◌, Bool, true, false, not, ◌&&◌, ◌||◌, nat_lt, List, ◌++◌}
+use Rattle.std.specs.Prelude.{◌≡◌, ℕ, ◌+◌, ◌-◌, min, nat_le, if◌then◌else◌, ◌^◌, Bool, true, false}
+use Rattle.std.specs.Prelude.{not, ◌&&◌, ◌||◌, nat_lt, List, ◌++◌, length}
 use Rattle.std.specs.Prelude.{take, Some, None, is_some, Result, Ok, Err}
 use Rattle.ev_types.specs.declared.filter.FilterKind.{FilterKind}
 use Rattle.ev_types.specs.declared.filter.Mode.{Mode}
 use Rattle.ev_types.specs.declared.filter.Mode.TheVariants as mode_of
 use Rattle.filter_model.specs.Running.{Running}
-use Rattle.filter_model.specs.FilterStep.{Stepped, most_made}
+use Rattle.filter_model.specs.FilterStep.{Stepped, stepped, most_made}
 use Rattle.stream_filters.specs.declared.stream_filter.Step.{Step}
 use Rattle.stream_filters.specs.declared.fault.FilterFault.{FilterFault}
 use Rattle.stream_filters.specs.declared.fault.FilterFault.TheVariants.{Memory, BadByte, Spent}
@@ -40,6 +41,11 @@ Answers (Err (BadByte used place)) s before after target filled =
     (used ≡ s.used) × (s.after.stopped ≡ Some place) × WasMade s after target filled
 Answers (Err Memory) s before after target filled = (after ≡ before) × (filled ≡ target)
 Answers (Err Spent) s before after target filled = (after ≡ before) × (filled ≡ target)
+
+-- the answer of a running filter's step of this mode, up to this limit, over src
+abbrev pub AnswersStep : Result Step FilterFault → Mode → ℕ → List ℕ → Running → Running → List ℕ → List ℕ → Type 0
+AnswersStep result mode limit src before after target filled =
+    Answers result (stepped before (is_last mode) limit (length target) src) before after target filled
 
 -- a step whose output is the bytes that it used, which its caller moves: it answers as a step does, and wants no memory
 abbrev pub AnswersInPlace : Result Step FilterFault → Stepped → Running → Running → List ℕ → Type 0

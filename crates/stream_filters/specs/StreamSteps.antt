@@ -104,7 +104,7 @@ is_beyond x offered = not (x.finished || is_some x.stopped) && not (nat_lt (x.us
 
 -- One step of a filter. It is the same filter then. Whatever it may have used before, it answers and makes what its definition says,
 -- and may have used what the step used too. A refused step changed nothing, and Spent comes exactly where the bytes can't be counted.
-pub record Steps {S : Type 0} (filter : S → Filter) (reached : S → Reached) (known : S → List ℕ → Type 0) (mode : Mode) (limit : ℕ)
+pub record MakesStep {S : Type 0} (filter : S → Filter) (reached : S → Reached) (known : S → List ℕ → Type 0) (mode : Mode) (limit : ℕ)
     (src : List ℕ) (result : Result Step FilterFault) (before after : S) (target filled : List ℕ) : Type 0 where
   pub same : filter after ≡ filter before
   pub tells : (past : List ℕ) → known before past →

@@ -4,8 +4,8 @@ ghost use Rattle.ev_types.specs.declared.filter.FilterKind.TheVariants as kind_o
 ghost use Rattle.ev_types.specs.declared.filter.Mode.TheVariants as mode_of;
 ghost use Rattle.filter_model.specs.FilterStep.{begun, stepped};
 ghost use Rattle.stream_filters.specs.House.{MayHaveUsed, definition, reach};
-ghost use Rattle.stream_filters.specs.StepAnswers.{most_by_step, Answers, WasMade, AnswersInPlace, is_last, is_spent, says_spent};
-ghost use Rattle.stream_filters.specs.StreamSteps.{Steps};
+ghost use Rattle.stream_filters.specs.StepAnswers.{most_by_step, AnswersStep, WasMade, AnswersInPlace, is_last, is_spent, says_spent};
+ghost use Rattle.stream_filters.specs.StreamSteps.{MakesStep};
 
 use crate::fault::FilterFault;
 use crate::knowledge::Knowledge;
@@ -143,9 +143,9 @@ impl StreamFilter for AnyFilter {
         mode: Mode,
     ) -> Result<Step, FilterFault>
         requires open { self.old.finished ≡ true → (src.now ≡ []) × (mode ≡ mode_of.Finished) }
-        ensures answers { Answers result (stepped self.old (is_last mode) limit (length dst.old.items) src.now) self.old self.new dst.old.items dst.new.items }
+        ensures answers { AnswersStep result mode limit src.now self.old self.new dst.old.items dst.new.items }
         ensures spent { says_spent result ≡ is_spent self.old (length src.now) }
-        ensures steps { Steps definition reach MayHaveUsed mode limit src.now result self.old self.new dst.old.items dst.new.items }
+        ensures steps { MakesStep definition reach MayHaveUsed mode limit src.now result self.old self.new dst.old.items dst.new.items }
     {
         step_by(self.kind, &mut self.known, src, dst, limit, mode)
     }

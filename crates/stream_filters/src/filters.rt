@@ -2,10 +2,10 @@
 ghost use Rattle.std.specs.Prelude.{◌≡◌, true, [], length};
 ghost use Rattle.ev_types.specs.declared.filter.FilterKind.TheVariants as kind_of;
 ghost use Rattle.ev_types.specs.declared.filter.Mode.TheVariants as mode_of;
-ghost use Rattle.filter_model.specs.FilterStep.{begun, stepped};
+ghost use Rattle.filter_model.specs.FilterStep.{begun};
 ghost use Rattle.stream_filters.specs.House.{MayHaveUsed, definition, reach};
-ghost use Rattle.stream_filters.specs.StepAnswers.{Answers, is_last, is_spent, says_spent};
-ghost use Rattle.stream_filters.specs.StreamSteps.{Steps};
+ghost use Rattle.stream_filters.specs.StepAnswers.{AnswersStep, is_spent, says_spent};
+ghost use Rattle.stream_filters.specs.StreamSteps.{MakesStep};
 
 use crate::fault::FilterFault;
 use crate::knowledge::Knowledge;
@@ -76,9 +76,9 @@ impl StreamFilter for NoFilter {
         mode: Mode,
     ) -> Result<Step, FilterFault>
         requires open { self.old.finished ≡ true → (src.now ≡ []) × (mode ≡ mode_of.Finished) }
-        ensures answers { Answers result (stepped self.old (is_last mode) limit (length dst.old.items) src.now) self.old self.new dst.old.items dst.new.items }
+        ensures answers { AnswersStep result mode limit src.now self.old self.new dst.old.items dst.new.items }
         ensures spent { says_spent result ≡ is_spent self.old (length src.now) }
-        ensures steps { Steps definition reach MayHaveUsed mode limit src.now result self.old self.new dst.old.items dst.new.items }
+        ensures steps { MakesStep definition reach MayHaveUsed mode limit src.now result self.old self.new dst.old.items dst.new.items }
     {
         step_by(FilterKind::None, &mut self.known, src, dst, limit, mode)
     }
@@ -146,9 +146,9 @@ impl StreamFilter for ToCrlf {
         mode: Mode,
     ) -> Result<Step, FilterFault>
         requires open { self.old.finished ≡ true → (src.now ≡ []) × (mode ≡ mode_of.Finished) }
-        ensures answers { Answers result (stepped self.old (is_last mode) limit (length dst.old.items) src.now) self.old self.new dst.old.items dst.new.items }
+        ensures answers { AnswersStep result mode limit src.now self.old self.new dst.old.items dst.new.items }
         ensures spent { says_spent result ≡ is_spent self.old (length src.now) }
-        ensures steps { Steps definition reach MayHaveUsed mode limit src.now result self.old self.new dst.old.items dst.new.items }
+        ensures steps { MakesStep definition reach MayHaveUsed mode limit src.now result self.old self.new dst.old.items dst.new.items }
     {
         step_by(FilterKind::ToCrlf, &mut self.known, src, dst, limit, mode)
     }
@@ -216,9 +216,9 @@ impl StreamFilter for ToLf {
         mode: Mode,
     ) -> Result<Step, FilterFault>
         requires open { self.old.finished ≡ true → (src.now ≡ []) × (mode ≡ mode_of.Finished) }
-        ensures answers { Answers result (stepped self.old (is_last mode) limit (length dst.old.items) src.now) self.old self.new dst.old.items dst.new.items }
+        ensures answers { AnswersStep result mode limit src.now self.old self.new dst.old.items dst.new.items }
         ensures spent { says_spent result ≡ is_spent self.old (length src.now) }
-        ensures steps { Steps definition reach MayHaveUsed mode limit src.now result self.old self.new dst.old.items dst.new.items }
+        ensures steps { MakesStep definition reach MayHaveUsed mode limit src.now result self.old self.new dst.old.items dst.new.items }
     {
         step_by(FilterKind::ToLf, &mut self.known, src, dst, limit, mode)
     }
@@ -286,9 +286,9 @@ impl StreamFilter for HexOut {
         mode: Mode,
     ) -> Result<Step, FilterFault>
         requires open { self.old.finished ≡ true → (src.now ≡ []) × (mode ≡ mode_of.Finished) }
-        ensures answers { Answers result (stepped self.old (is_last mode) limit (length dst.old.items) src.now) self.old self.new dst.old.items dst.new.items }
+        ensures answers { AnswersStep result mode limit src.now self.old self.new dst.old.items dst.new.items }
         ensures spent { says_spent result ≡ is_spent self.old (length src.now) }
-        ensures steps { Steps definition reach MayHaveUsed mode limit src.now result self.old self.new dst.old.items dst.new.items }
+        ensures steps { MakesStep definition reach MayHaveUsed mode limit src.now result self.old self.new dst.old.items dst.new.items }
     {
         step_by(FilterKind::HexOut, &mut self.known, src, dst, limit, mode)
     }
@@ -359,9 +359,9 @@ impl StreamFilter for HexIn {
         mode: Mode,
     ) -> Result<Step, FilterFault>
         requires open { self.old.finished ≡ true → (src.now ≡ []) × (mode ≡ mode_of.Finished) }
-        ensures answers { Answers result (stepped self.old (is_last mode) limit (length dst.old.items) src.now) self.old self.new dst.old.items dst.new.items }
+        ensures answers { AnswersStep result mode limit src.now self.old self.new dst.old.items dst.new.items }
         ensures spent { says_spent result ≡ is_spent self.old (length src.now) }
-        ensures steps { Steps definition reach MayHaveUsed mode limit src.now result self.old self.new dst.old.items dst.new.items }
+        ensures steps { MakesStep definition reach MayHaveUsed mode limit src.now result self.old self.new dst.old.items dst.new.items }
     {
         step_by(FilterKind::HexIn, &mut self.known, src, dst, limit, mode)
     }

@@ -1,6 +1,7 @@
 // The parts in which a run is made: each uses a first piece of the source and appends what that makes. A target is below
 // its limit, and has the room.
-ghost use Rattle.std.specs.Prelude.{◌≡◌, ◌≢◌, ◌≤◌, ◌<◌, ◌+◌, ◌-◌, ◌*◌, ◌/◌, ◌%◌, ◌++◌, ◌∷◌, [], ⊤, true, Some, length, take, drop, min, All};
+ghost use Rattle.std.specs.Prelude.{◌≡◌, ◌≢◌, ◌≤◌, ◌<◌, ◌+◌, ◌-◌, ◌*◌, ◌/◌, ◌%◌};
+ghost use Rattle.std.specs.Prelude.{◌++◌, ◌∷◌, [], ⊤, true, Some, length, take, drop, min, All};
 ghost use Rattle.std.specs.Prelude.{slice_index, unwrap_or, vec_len, vec_capacity};
 ghost use Rattle.std.specs.List.{last_or};
 ghost use Rattle.ev_types.specs.declared.filter.FilterKind.TheVariants as kind_of;

@@ -1,7 +1,7 @@
 // What a filter of a byte stream is.
 ghost use Rattle.std.specs.Prelude.{◌≡◌, ℕ, true, []};
 ghost use Rattle.ev_types.specs.declared.filter.Mode.TheVariants as mode_of;
-ghost use Rattle.stream_filters.specs.StreamSteps.{IsStreamFilter, Steps};
+ghost use Rattle.stream_filters.specs.StreamSteps.{IsStreamFilter, MakesStep};
 
 use crate::fault::FilterFault;
 use ev_types::Mode;
@@ -68,7 +68,7 @@ pub trait StreamFilter: Drop {
         mode: Mode,
     ) -> Result<Step, FilterFault>
         requires open { (reached self.old).finished ≡ true → (src.now ≡ []) × (mode ≡ mode_of.Finished) }
-        ensures steps { Steps filter reached known mode limit src.now result self.old self.new dst.old.items dst.new.items };
+        ensures steps { MakesStep filter reached known mode limit src.now result self.old self.new dst.old.items dst.new.items };
 
     /// Its output is never taken back and stops before a bad place, and what it keeps of the bytes that it used is all that matters.
     ghost lawful: { IsStreamFilter filter reached known };

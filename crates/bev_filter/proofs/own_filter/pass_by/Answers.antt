@@ -1,5 +1,5 @@
 use Rattle.std.proofs.Common.{◌-◌, ◌∙◌, ap, subst, Err}
-use Rattle.stream_filters.specs.StreamSteps.{Steps}
+use Rattle.stream_filters.specs.StreamSteps.{MakesStep}
 use Rattle.bev_filter.specs.PassingBy.{Between}
 use Rattle.bev_filter.proofs.PassingByLemmas.{passed-on, passed-bad}
 use Rattle.bev_filter.proofs.own_filter.pass_by.Goals as goal
@@ -18,7 +18,7 @@ returns-in_ok-trade-in-Ok g c =
 pub returns-in_ok-trade-in-Err-BadByte : goal.returns-in_ok-trade-in-Err-BadByte
 returns-in_ok-trade-in-Err-BadByte g c =
     let left = c.saturating_sub-room.ensures ∙ ap (λ n. c.args.limit - n) c.len.ensures.len in
-    let steps = subst (λ fault. Steps g.F.StreamFilter.filter g.F.StreamFilter.reached g.F.StreamFilter.known c.args.mode
+    let steps = subst (λ fault. MakesStep g.F.StreamFilter.filter g.F.StreamFilter.reached g.F.StreamFilter.known c.args.mode
     c.saturating_sub-room.result c.all_of.result.now (Err fault) c.copied-next.result c.step.new.self c.new-made.result.items
     c.step.new.dst.items) c.in-Err-BadByte.field-0-is c.in-Err-BadByte.ensures.steps in
     record {

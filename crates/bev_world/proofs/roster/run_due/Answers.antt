@@ -43,7 +43,8 @@ pub returns-in_err-serve_call-clause-hooked : goal.returns-in_err-serve_call-cla
 returns-in_err-serve_call-clause-hooked g c =
     let p = err_from_is_err_and c.from_residual.result c.from_residual.ensures.1 in
     rw p.1 (heard-short _ _ _ _ c.requires.kept
-    (ran-short _ _ _ _ c.next_call.new.self _ c.loop-owner.invariant.ran c.next_call.ensures.others _ _ c.in-Some.ensures.next c.in_err-serve_call.ensures.short))
+    (ran-short _ _ _ _ c.next_call.new.self _ c.loop-owner.invariant.ran c.next_call.ensures.others _ _
+    c.in-Some.ensures.next c.in_err-serve_call.ensures.short))
 
 pub returns-clause-hooked : goal.returns-clause-hooked
 returns-clause-hooked g c = heard-all _ _ _ _ _ c.requires.kept (returns-clause-ran g c)

@@ -12,11 +12,13 @@ pub returns-in_err-all-clause-went : goal.returns-in_err-all-clause-went
 returns-in_err-all-clause-went c = went_none _
 
 pub returns-in_err-reserve-clause-went : goal.returns-in_err-reserve-clause-went
-returns-in_err-reserve-clause-went c = rw (← c.self.view_is) (went_due (world_of c.self.inside) _ _ _ c.reserve.ensures.pending c.reserve.ensures.batch)
+returns-in_err-reserve-clause-went c =
+    rw (← c.self.view_is) (went_due (world_of c.self.inside) _ _ _ c.reserve.ensures.pending c.reserve.ensures.batch)
 
 pub returns-in_err-reserve-2-clause-went : goal.returns-in_err-reserve-2-clause-went
 returns-in_err-reserve-2-clause-went c =
-    rw (← c.self.view_is, c.reserve-2.ensures.items) (went_due (world_of c.self.inside) _ _ _ c.reserve.ensures.pending c.reserve.ensures.batch)
+    rw (← c.self.view_is, c.reserve-2.ensures.items)
+    (went_due (world_of c.self.inside) _ _ _ c.reserve.ensures.pending c.reserve.ensures.batch)
 
 pub invariant_of-self-2 : goal.invariant_of-self-2
 invariant_of-self-2 c =
@@ -28,4 +30,5 @@ invariant_of-self-2 c =
 
 pub returns-clause-went : goal.returns-clause-went
 returns-clause-went c =
-    rw (← c.self.view_is, c.reserve-2.ensures.items) (went_due (world_of c.self.inside) _ _ _ c.reserve.ensures.pending c.reserve.ensures.batch)
+    rw (← c.self.view_is, c.reserve-2.ensures.items)
+    (went_due (world_of c.self.inside) _ _ _ c.reserve.ensures.pending c.reserve.ensures.batch)
