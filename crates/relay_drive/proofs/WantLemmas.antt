@@ -28,7 +28,9 @@ at_most-some (Some (suc m)) (suc n) h = le-leb 1 (min (suc m) (suc n)) (omega ar
 at_most-and : (o : Option ℕ) (n : ℕ) → nat_le 1 (at_most o n) ≡ (leaves_some o && nat_le 1 n)
 at_most-and None n = refl
 at_most-and (Some zero) n = let none : min 0 n ≡ 0 = omega arith in ap (nat_le 1) none
-at_most-and (Some (suc m)) n = at_most-some (Some (suc m)) n refl
+at_most-and (Some (suc m)) n =
+    let some : leaves_some (Some (suc m)) ≡ true = le-leb 1 (suc m) (omega arith) in
+    at_most-some (Some (suc m)) n some ∙ sym (ap (λ c. c && nat_le 1 n) some)
 
 -- a room that is open or not, which is cut to what is left
 room-some : (b : Bool) (o : Option ℕ) (n : ℕ) → leaves_some o ≡ true
