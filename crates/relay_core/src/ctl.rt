@@ -50,7 +50,6 @@ pub struct Ctl {
 
 impl Model for Ctl {
     ghost use Rattle.relay_core.specs.RelayValue.{RelayValue};
-
     ghost use Rattle.std.specs.Coded.{codes};
     ghost use Rattle.number_set.specs.Code.{number_set_code};
 

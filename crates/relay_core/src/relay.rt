@@ -29,7 +29,6 @@ pub struct Relay {
 
 impl Model for Relay {
     ghost use Rattle.relay_core.specs.RelayValue.{RelayValue};
-
     ghost use Rattle.std.specs.Coded.{codes};
     ghost use Rattle.number_set.specs.Code.{number_set_code};
 
