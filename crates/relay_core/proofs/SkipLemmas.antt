@@ -1,20 +1,17 @@
 -- Links at which no side waits for a moment are left out, where time is held against sides and where a poll asks for how long to wait.
 use Rattle.std.specs.List.{list_any}
-use Rattle.std.proofs.Common.{◌≡◌, ℕ, zero, suc, ◌+◌, ◌-◌, ◌<◌, ◌≤◌, ◌==◌, Bool, true, false, ◌&&◌, ◌||◌, not, nat_le, if◌then◌else◌}
-use Rattle.std.proofs.Common.{List, [], ◌∷◌, ◌++◌, fold, Option, Some, None, option_map, refl, sym, ◌∙◌, ap, arith}
-use Rattle.std.proofs.lemmas.Bool.{leb-true, eqb-true}
+use Rattle.std.proofs.Common.{◌≡◌, ℕ, zero, suc, ◌+◌, ◌-◌, ◌<◌, ◌≤◌, false, ◌&&◌, ◌||◌, not, if◌then◌else◌}
+use Rattle.std.proofs.Common.{List, [], ◌∷◌, ◌++◌, fold, ◌∙◌, ap, arith}
 use Rattle.token_bucket.specs.declared.limit.Dir.{Dir}
 use Rattle.token_bucket.specs.declared.limit.Dir.TheVariants as dir
 use Rattle.ev_types.specs.declared.side.SideId.{SideId}
-use Rattle.relay_model.specs.Plain.{Standing, side_at, change_side, is_live, sides_from}
-use Rattle.relay_model.specs.Rates.{next_tick}
+use Rattle.relay_model.specs.Plain.{side_at, change_side, sides_from}
 use Rattle.relay_model.specs.Reasons.{raise, happened, timeout_flag}
-use Rattle.relay_model.specs.Moments.{timeout_of, last_activity, is_timed, active_at, both_ways, moment_where, has_run_out, expire}
-use Rattle.relay_state.specs.State.{State, with_plain, gauge_at}
-use Rattle.relay_state.specs.Running.{held_at}
+use Rattle.relay_model.specs.Moments.{timeout_of, last_activity, is_timed, active_at, moment_where, has_run_out, expire}
+use Rattle.relay_state.specs.State.{State, with_plain}
 use Rattle.relay_state.specs.Closing.{in_side, out_side}
 use Rattle.relay_state.specs.Rooms.{wants}
-use Rattle.relay_state.specs.Time.{expiry, limit_gain, timed, side_timed}
+use Rattle.relay_state.specs.Time.{expiry, timed, side_timed}
 use Rattle.relay_core.specs.Timeless.{IsStillSide}
 use Rattle.relay_core.specs.Waits.{is_expired, expiries}
 use Rattle.relay_core.proofs.TimeLemmas.{sides_from-more}

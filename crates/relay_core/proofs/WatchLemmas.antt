@@ -1,17 +1,14 @@
 -- Which links are watched stays right: a link is watched where a side of it may begin to wait for a moment, and the other sides are as
 -- they were.
 use Rattle.std.specs.Prelude.{slice_index_or, slice_set, if◌then◌else◌, is_some, not}
-use Rattle.std.proofs.Common.{◌≡◌, ◌≢◌, ℕ, zero, suc, ◌+◌, ◌-◌, ◌*◌, ◌/◌, ◌<◌, ◌≤◌, ◌==◌, Bool, true, false, ◌&&◌, ◌||◌, nat_le, nat_eq}
+use Rattle.std.proofs.Common.{◌≡◌, ◌≢◌, ℕ, zero, suc, ◌+◌, ◌*◌, ◌<◌, ◌≤◌, ◌==◌, Bool, true, false, ◌&&◌, nat_le, nat_eq}
 use Rattle.std.proofs.Common.{List, [], ◌∷◌, ◌++◌, length, Option, Some, None, Result, Ok, Err, MatchResult, inl, inr, refl, sym, ◌∙◌, ap}
 use Rattle.std.proofs.Common.{subst, arith}
-use Rattle.std.proofs.Math.Nat.{mul-le-mul_left}
-use Rattle.std.proofs.lemmas.Bool.{eqb-false, le-leb, leb-true, or_parts}
 use Rattle.std.proofs.lemmas.Bool.Decides.{eqb_tells}
 use Rattle.std.proofs.lemmas.List.{get_or-set_other, get_or_append_left, set-get_or}
 use Rattle.std.specs.Map.{remove_entry}
 use Rattle.token_bucket.specs.declared.limit.Dir.{Dir}
 use Rattle.token_bucket.specs.declared.limit.Dir.TheVariants as dir
-use Rattle.token_bucket.specs.declared.limit.LimitCfg.{LimitCfg}
 use Rattle.ev_types.specs.declared.side.Side.{Side}
 use Rattle.ev_types.specs.declared.side.Side.TheVariants.{In, Out}
 use Rattle.ev_types.specs.declared.side.SideId.{SideId}
@@ -24,11 +21,10 @@ use Rattle.relay_model.specs.Plain.{PlainSide, Standing, no_side}
 use Rattle.relay_model.specs.Asks.{enabled}
 use Rattle.relay_model.specs.Moments.{active_at}
 use Rattle.relay_model.proofs.PlainLemmas.{half-below}
-use Rattle.relay_model.proofs.RateBound.{div-later}
 use Rattle.relay_state.specs.Passage.{Passage, read_part}
 use Rattle.relay_state.specs.Passing.{with_bad}
 use Rattle.relay_state.specs.Opening.{joined_where}
-use Rattle.relay_state.specs.Running.{Gauge, no_gauge, held_at, gauge_after}
+use Rattle.relay_state.specs.Running.{Gauge, no_gauge, gauge_after}
 use Rattle.relay_sides.specs.Links as links
 use Rattle.relay_sides.specs.Links.{Links, change_side, with_link}
 use Rattle.relay_sides.specs.declared.opening.NewSide.{NewSide}

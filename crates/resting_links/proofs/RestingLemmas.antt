@@ -1,6 +1,6 @@
 -- Moments that are taken, and links that are watched one after the other.
-use Rattle.std.specs.Prelude.{slice_index_or, slice_set, if◌then◌else◌, nat_eq}
-use Rattle.std.proofs.Common.{◌≡◌, ◌≢◌, ℕ, zero, suc, ◌+◌, ◌*◌, ◌/◌, ◌<◌, ◌≤◌, ◌==◌, Bool, true, false, List, [], ◌∷◌, length}
+use Rattle.std.specs.Prelude.{slice_set, if◌then◌else◌}
+use Rattle.std.proofs.Common.{◌≡◌, ◌≢◌, ℕ, zero, suc, ◌/◌, ◌<◌, ◌≤◌, ◌==◌, Bool, true, false, List, [], ◌∷◌, length}
 use Rattle.std.proofs.Common.{Option, Some, None, inl, inr, refl, sym, ◌∙◌, ap, arith}
 use Rattle.std.proofs.lemmas.Bool.Decides.{eqb_tells}
 use Rattle.ev_types.specs.declared.side.Side.{Side}
@@ -8,7 +8,7 @@ use Rattle.ev_types.specs.declared.side.Side.TheVariants.{In, Out}
 use Rattle.ev_types.specs.declared.side.SideId.{SideId}
 use Rattle.ev_types.specs.Sides.{number, half}
 use Rattle.next_moments.specs.Earliest.{moment_for}
-use Rattle.resting_links.specs.RestingValue.{RestingValue, side_moment, Wakes}
+use Rattle.resting_links.specs.RestingValue.{RestingValue, Wakes}
 
 pub wakes-none : (r : RestingValue) → Wakes r r
 wakes-none r = record { len = refl; places = refl; grew = λ n out. out; kept = λ e out. refl; none = λ i is. is }

@@ -1,4 +1,4 @@
-use Rattle.std.proofs.Common.{◌≡◌, ◌≤◌, ◌<◌, ◌+◌, ◌*◌, ◌/◌, ℕ, ◌∙◌, Option, Some, None, ap, sym, subst, refl, arith, length, List}
+use Rattle.std.proofs.Common.{◌≡◌, ◌≤◌, ◌<◌, ℕ, ◌∙◌, Option, Some, None, ap, sym, subst, refl, arith, List}
 use Rattle.std.specs.Prelude.{IsSomeAnd, if◌then◌else◌}
 use Rattle.next_moments.specs.Earliest.{moment_for, IsEarliest, IsEarliestDue, taken_from, is_taken}
 use Rattle.resting_links.specs.RestingValue.{RestingValue, Wakes}

@@ -1,4 +1,4 @@
-use Rattle.std.proofs.Common.{◌≡◌, ℕ, ◌+◌, ◌-◌, ◌<◌, ◌≤◌, true}
+use Rattle.std.proofs.Common.{◌≡◌, ℕ, ◌+◌, ◌-◌, ◌<◌, true}
 use Rattle.resting_links.specs.RestingValue.{HasPlaces, Wakes}
 use Rattle.resting_links.proofs.resting.RestingLinks.watch_all.Given as goal
 
