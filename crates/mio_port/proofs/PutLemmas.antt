@@ -1,6 +1,5 @@
 -- What a set of numbers tells of the ends, where one end was put into its place.
-use Rattle.std.proofs.Common.{◌≡◌, ◌∙◌, ℕ, ◌==◌, ◌<◌, Bool, true, false, if◌then◌else◌, List, Option, None, length, get_or, set, sym}
-use Rattle.std.proofs.Common.{ap, inl, inr}
+use Rattle.std.proofs.Common.{◌≡◌, ◌∙◌, ℕ, ◌==◌, Bool, if◌then◌else◌, List, Option, None, get_or, set, sym, ap, inl, inr}
 use Rattle.std.proofs.Common.{eq-eqb}
 use Rattle.std.proofs.lemmas.Bool.{cases_eq, ne_eqb}
 use Rattle.std.proofs.lemmas.List.{get_or-set_other}

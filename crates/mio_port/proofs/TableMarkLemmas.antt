@@ -1,6 +1,6 @@
 -- What a poll of a table marks: by the sets of the numbers that are ready it is what the ends tell, and it is a poll of a port
 -- that tells nothing.
-use Rattle.std.proofs.Common.{◌≡◌, ◌∙◌, ℕ, ◌==◌, ◌&&◌, ◌||◌, not, Bool, true, false, if◌then◌else◌, List, [], ◌∷◌}
+use Rattle.std.proofs.Common.{◌≡◌, ◌∙◌, ℕ, ◌==◌, ◌&&◌, ◌||◌, not, Bool, true, false, List, [], ◌∷◌}
 use Rattle.std.proofs.Common.{Option, Some, None, map, sym, ap, refl, get_or, eqb-true, rules}
 use Rattle.std.specs.Prelude.{filter, ⊤}
 use Rattle.std.specs.List.{list_any}

@@ -1,5 +1,5 @@
 -- What a socket tells that the system was asked of it, and what one read and one write do to a stream that tells its bytes.
-use Rattle.std.specs.Prelude.{◌≡◌, ℕ, ◌<◌, ⊤, List, [], ◌∷◌, length, take, Option}
+use Rattle.std.specs.Prelude.{◌≡◌, ℕ, ◌<◌, List, [], ◌∷◌, length, take, Option}
 use Rattle.std.specs.Io.KnownBytes.{Appends, Consumes, IsAtEnd, Keeps}
 use Rattle.mio_port.specs.declared.attempt.Attempt.{Attempt}
 use Rattle.mio_port.specs.declared.attempt.Attempt.TheVariants as attempt

@@ -1,4 +1,4 @@
-use Rattle.std.proofs.Common.{◌∙◌, ◌||◌, true, sym, ap}
+use Rattle.std.proofs.Common.{◌∙◌, ◌||◌, sym, ap}
 use Rattle.std.specs.List.{list_any}
 use Rattle.ev_port.specs.Table.{is_ready_by, named}
 use Rattle.mio_port.proofs.TableMarkLemmas.{any-ends}

@@ -1,4 +1,4 @@
-use Rattle.std.proofs.Common.{Bool, Option, Some, set}
+use Rattle.std.proofs.Common.{Some, set}
 use Rattle.mio_port.specs.EndPlaces.{is_bulky, is_prompt, is_write_ready}
 use Rattle.mio_port.proofs.PutLemmas.{put-one}
 use Rattle.mio_port.proofs.ends.Ends.put.Goals as goal
