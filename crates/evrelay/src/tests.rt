@@ -11,7 +11,6 @@ use std::test::Fail;
 
 mod failed_calls;
 mod sockets;
-mod stopping;
 
 /// What a run of the program is owed to come to: the status of the process, its report, and what it says on standard error.
 type Owed = (u8, &'static str, &'static str);
