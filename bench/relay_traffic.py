@@ -7,6 +7,7 @@ Stages, each over a relay of its own:
   traffic   some 200 links at once, random sizes and pieces, both ways, each half closed by itself
   reset     one link of many is reset in the middle; all others arrive whole
   refused   a target that refuses: the client is closed, and the relay goes on
+  full      once all its links are opened it listens no more: the next client is refused at once, and the last link goes on
   address   it listens at the address that it was given and at no other, connects to that of the target, and waits without the processor
   many      1,100 links, one after the other, each to the target, with bytes of its own both ways
   halves    1 MiB each way, the second one sent only once the first one and its end came, in both orders
@@ -234,6 +235,37 @@ async def refused(program, rng, links):
     if len(lines.get('gone', ())) != links:
         fail('links to a target that refuses are not gone')
     return f'{links} clients were closed'
+
+
+def is_refused(port):
+    try:
+        socket.create_connection(('127.0.0.1', port), 1).close()
+    except ConnectionRefusedError:
+        return True
+    return False
+
+
+async def full(program):
+    """One link, which is left open; a second client before and behind its end."""
+    server = socket.create_server(('127.0.0.1', 0))
+    server.settimeout(5)
+    relay = Relay(program, server.getsockname()[1], 1)
+    with socket.create_connection(('127.0.0.1', relay.port), 5) as near:
+        far, _ = await asyncio.to_thread(server.accept)
+        near.settimeout(5)
+        far.sendall(b'hello')
+        if await asyncio.to_thread(near.recv, 5, socket.MSG_WAITALL) != b'hello':
+            fail('the only link carries nothing')
+        if not is_refused(relay.port):
+            fail('a client is taken that is one too many')
+        near.sendall(b'there')
+        if await asyncio.to_thread(far.recv, 5, socket.MSG_WAITALL) != b'there':
+            fail('the only link carries nothing once it listens no more')
+        far.close()
+    lines = told(await asyncio.to_thread(relay.report))
+    if sum(len(counts) for counts in lines.values()) != 1:
+        fail('the report tells of another number of links')
+    return 'the second client was refused'
 
 
 async def address(program, seconds):
@@ -487,6 +519,7 @@ async def main():
         ('traffic', traffic(program, rng, 40 if quick else 200, 200_000 if quick else 2_000_000)),
         ('reset', reset(program, rng, 10 if quick else 60, 100_000 if quick else 1_000_000)),
         ('refused', refused(program, rng, 5)),
+        ('full', full(program)),
         ('address', address(program, 1)),
         ('many', many(program, rng, 1100)),
         ('halves', halves(program, rng, MIB)),
