@@ -7,3 +7,9 @@ returns-clause-went c =
 
 pub returns-in_err-push-clause-went : goal.returns-in_err-push-clause-went
 returns-in_err-push-clause-went c = went_none _
+
+pub returns-clause-did : goal.returns-clause-did
+returns-clause-did c = returns-clause-went c
+
+pub returns-in_err-push-clause-did : goal.returns-in_err-push-clause-did
+returns-in_err-push-clause-did c = went_none _
