@@ -59,14 +59,21 @@ fn sends_both(world: &mut World<'_>) -> Result<bool, Fail> {
     Ok(reads_full(&mut world.port, IN_0) && reads_full(&mut world.port, OUT_0))
 }
 
+/// The table says what a side wants, where it has its link.
+fn wants(table: &mut WantTable, side: SideId, read: bool, write: bool) {
+    if side.link < table.links() {
+        table.set(side, read, write);
+    }
+}
+
 /// Whether each of two bulky ends has its turn, one alone has all, and an end whose read came short needs none.
 fn takes_turns(port: &mut RealPort<'_>, table: &mut WantTable) -> [bool; 5] {
     let first = lists(port, table, READS_OUT, POLLS);
     let second = lists(port, table, READS_IN, POLLS);
     let again = lists(port, table, READS_OUT, 1);
-    table.set(OUT_0, false, false);
+    wants(table, OUT_0, false, false);
     let alone = lists(port, table, READS_IN, 2 * POLLS);
-    table.set(OUT_0, true, false);
+    wants(table, OUT_0, true, false);
     port.read(OUT_0, &mut [0; 16]);
     let short = lists(port, table, READS_IN, 2 * POLLS);
     [first, second, again, alone, short]
@@ -75,9 +82,9 @@ fn takes_turns(port: &mut RealPort<'_>, table: &mut WantTable) -> [bool; 5] {
 /// Whether a write that can be done is listed alone, and behind it what has the turn.
 fn drains_first(port: &mut RealPort<'_>, table: &mut WantTable) -> [bool; 2] {
     let writes = want((OUT_0, WRITING, WRITING));
-    table.set(OUT_0, false, true);
+    wants(table, OUT_0, false, true);
     let drains = lists(port, table, writes, POLLS);
-    table.set(OUT_0, false, false);
+    wants(table, OUT_0, false, false);
     [drains, lists(port, table, READS_IN, 1)]
 }
 
