@@ -12,7 +12,7 @@ Stages, each over a relay of its own:
   many      1,100 links, one after the other, each to the target, with bytes of its own both ways
   halves    1 MiB each way, the second one sent only once the first one and its end came, in both orders
   starved   with few descriptors it ends at once and says so, or it serves
-  idle      links that moved 64 KiB each way and are idle hold at most 2,200 bytes each, and cost no processor
+  idle      links that moved 64 KiB each way and are idle hold at most 2,400 bytes each, and cost no processor
   stopped   a reader that stops for seconds: memory stays within the hold mark, the processor is idle, then all arrives
   vanished  clients that vanish while bytes come for them
   short     links beyond the descriptors: each one in the end
@@ -387,7 +387,7 @@ async def idle(program, rng, links, size, seconds):
     used = relay.seconds()
     await asyncio.sleep(seconds)
     used = relay.seconds() - used
-    if held > 2200:
+    if held > 2400:
         fail(f'an idle link holds {held} bytes')
     if used > .05 * seconds:
         fail(f'{links} idle links cost {used:.2f} s in {seconds} s')
