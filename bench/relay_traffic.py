@@ -533,7 +533,11 @@ async def main():
     ]
     for name, stage in stages:
         began = time.time()
-        print(f'{name}: {await stage} ({time.time() - began:.1f} s)', flush=True)
+        try:
+            came = await asyncio.wait_for(stage, 300)
+        except asyncio.TimeoutError:
+            fail(f'{name} does not end')
+        print(f'{name}: {came} ({time.time() - began:.1f} s)', flush=True)
 
 
 asyncio.run(main())
