@@ -53,7 +53,7 @@ impl Group {
     }
 
     /// Whether its members move nothing in a direction.
-    fn is_suspended(&self, dir: Dir) -> bool
+    pub(crate) fn is_suspended(&self, dir: Dir) -> bool
         ensures { result ≡ (lane_of (group_value self.now) dir).suspended }
     {
         match dir {

@@ -218,6 +218,17 @@ impl Groups {
     {
         Some(self.groups.get(group as usize)?.level(dir))
     }
+
+    /// Whether a group is suspended in a direction, so that its members move nothing there. None exactly for no group. Takes no memory;
+    /// the cost is constant.
+    ///
+    /// Libevent: bufferevent-internal.h, `read_suspended` and `write_suspended` of a rate limit group.
+    pub fn is_suspended(&self, group: u32, dir: Dir) -> Option<bool>
+        ensures { result ≡ option_map (λ g. (lane_of g dir).suspended) (slice_get self.now.value.groups group) }
+    {
+        Some(self.groups.get(group as usize)?.is_suspended(dir))
+    }
+
     /// The earliest moment at which a suspended group gains again, of those that have members: the start of the next tick of its limit.
     /// None exactly where no such group is suspended. It is asked that the time is at most 2^62 ms. Takes no memory; the cost is in the
     /// number of groups.
