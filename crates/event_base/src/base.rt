@@ -13,7 +13,7 @@ use crate::BaseFault;
 use crate::deadlines::Deadlines;
 use crate::event::{Event, SIGNAL, TIMEOUT, Timeout, event_at, live_event};
 use crate::ready::Ready;
-use crate::rousing::{any_overflows, hearing, raise_all, set_again, wakers, woken_at, woken_by};
+use crate::rousing::{any_overflows, hearing, raise_all, runs_out_at, set_again, wakers, woken_by};
 use std::alloc::Global;
 use std::marker::Model;
 
@@ -286,7 +286,7 @@ impl Base {
     /// Begins a turn. The base's time becomes this clock reading, in milliseconds and cut at 2^62, unless it is later already.
     /// Each pending event whose deadline is at most that time becomes active; equal deadlines come in the order of adding.
     /// The batch is what is then active of the most urgent priority; that of a base whose loop ended is empty. Spent comes
-    /// first. Takes memory; linear in the number of events.
+    /// first. Takes memory; linear in the number of events that are due and that of priorities.
     ///
     /// Libevent: event2/event.h, `event_base_loop` with `EVLOOP_ONCE`; "Working with an event loop".
     /// Differs: one turn runs one priority, and a clock that falls is not believed.
@@ -297,7 +297,7 @@ impl Base {
     {
         let over = self.ended();
         let time = self.time.max(now.min(MAX_TIME));
-        if woken_at(&self.events, time) > u64::MAX - self.ready.next() {
+        if runs_out_at(&self.events, time, self.ready.next()) {
             return Err(BaseFault::Spent);
         }
         let alloc = *self.events.allocator();

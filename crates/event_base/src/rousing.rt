@@ -1,8 +1,9 @@
 // Events that get a flag one after another.
 ghost use Rattle.std.specs.Prelude.{◌≡◌, ◌<◌, ◌≤◌, ◌+◌, ◌^◌, false, if◌then◌else◌, IfOk, IfErr, OnOk, OnErr, All, length, slice_set};
-ghost use Rattle.std.specs.Prelude.{count_by};
+ghost use Rattle.std.specs.Prelude.{count_by, not};
 ghost use Rattle.std.specs.Option.{option_map};
 ghost use Rattle.event_base.specs.Events.{again, set_again};
+ghost use Rattle.event_base.specs.Calls.{fit};
 ghost use Rattle.event_base.specs.Tied.{moment_at};
 ghost use Rattle.std.specs.List.{list_any};
 ghost use Rattle.event_base.specs.Fires.{hearing, is_woken_by, overflows, is_past_numbers, is_set_again};
@@ -81,10 +82,19 @@ pub fn any_overflows(events: &[Event], signal: u32, count: u32) -> bool
 }
 
 /// How many events become active by their timeouts.
-pub fn woken_at(events: &[Event], time: u64) -> u64
+fn woken_at(events: &[Event], time: u64) -> u64
     ensures { result ≡ count_by (wakes time) events.now }
 {
     events.iter().filter(|e| e.wakes(time)).count() as u64
+}
+
+/// Would more events become active by their timeouts than there are order numbers from this one on? They are counted only
+/// where fewer numbers are left than there are events.
+pub fn runs_out_at(events: &[Event], time: u64, next: u64) -> bool
+    ensures { result ≡ not (fit next (count_by (wakes time) events.now)) }
+{
+    let left = u64::MAX - next;
+    left < events.len() as u64 && left < woken_at(events, time)
 }
 
 /// Sets the timeout of an event again as its callback starts with these flags, or takes it away. Takes memory.

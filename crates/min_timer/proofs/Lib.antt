@@ -1,5 +1,6 @@
-pub mod KeptLemmas
 pub mod OrderLemmas
-pub mod PlaceLemmas
 pub mod HandleLemmas
+pub mod SlotLemmas
 pub mod TreeLemmas
+pub mod DueLemmas
+pub mod KeptLemmas

@@ -1,3 +1,4 @@
 pub mod Order
 pub mod Queue
 pub mod Handles
+pub mod Due

@@ -1,18 +1,27 @@
 -- The due events become active, and then the batch is fixed.
 use Rattle.std.proofs.Common.{◌≡◌, ◌∙◌, ℕ, ◌+◌, ◌-◌, ◌<◌, ◌≤◌, ◌^◌, max, min, sym, ap, subst, refl, [], map, count_by, slice_get, length}
-use Rattle.std.proofs.Common.{Some, None, Ok, Err, IfErr, is_some, true, false, arith}
+use Rattle.std.proofs.Common.{Some, None, Ok, Err, IfErr, is_some, true, false, not, List, arith}
+use Rattle.std.proofs.lemmas.Bool.{ltb-true, not-false}
+use Rattle.event_base.specs.declared.event.Event.{Event}
 use Rattle.event_base.specs.Base.{BaseValue}
 use Rattle.event_base.specs.Events.{made}
 use Rattle.event_base.specs.BaseView.{base_of}
 use Rattle.std.proofs.lemmas.Result.{err_from_is_err_and}
 use Rattle.event_base.specs.Deadlines.{due_at}
 use Rattle.event_base.specs.Turns.{time_at, wakes, timed_out}
-use Rattle.event_base.specs.Calls.{IsAnswer, begin_turn, ended}
+use Rattle.event_base.specs.Calls.{IsAnswer, begin_turn, ended, fit}
 use Rattle.event_base.specs.Faults.{from_timers}
 use Rattle.event_base.specs.Rousing.{risen, wakers}
 use Rattle.event_base.proofs.TurnLemmas.{risen-due, can-due, apart-due, wakers-due, IsOpen-start}
 use Rattle.event_base.proofs.CallLemmas.{if_err, answer-memory, begin_turn-ok, begin_turn-done, with_parts}
 use Rattle.event_base.proofs.base.Base.begin_turn.Goals as goal
+
+-- the numbers that do not run out are enough
+room_left : {seen items : List Event} {told next : ℕ} (time : ℕ) → told ≡ next → seen ≡ items
+    → not (fit told (count_by (wakes time) seen)) ≡ false → next + count_by (wakes time) items < 2 ^ 64
+room_left {items = items} {next = next} time number same enough =
+    ltb-true (next + count_by (wakes time) items) (2 ^ 64)
+    (rw (← number, ← same) (not-false _ enough))
 
 pub returns-in_err-due-clause-refused : goal.returns-in_err-due-clause-refused
 returns-in_err-due-clause-refused c =
@@ -20,8 +29,8 @@ returns-in_err-due-clause-refused c =
     let next = c.self.inside.ready.next in
     let time = c.max-time.result in
     let moments = c.self.inside.deadlines.moments in
-    let woken : c.woken_at.result ≡ count_by (wakes time) items = c.woken_at.ensures ∙ ap (count_by (wakes time)) c.deref.ensures.value in
-    let low : next + count_by (wakes time) items < 2 ^ 64 = omega (arith, woken, c.next.ensures, c.if-woken_at-next.false) in
+    let low : next + count_by (wakes time) items < 2 ^ 64 = room_left time c.next.ensures c.deref.ensures.value
+    (sym c.runs_out_at.ensures ∙ c.if-runs_out_at.false) in
     let at_time : time ≡ time_at c.self.inside.time c.args.now = c.max-time.ensures ∙ ap (max c.self.inside.time) c.min.ensures in
     let low_then : next + count_by (wakes (time_at c.self.inside.time c.args.now)) items < 2 ^ 64 = subst
     (λ t. next + count_by (wakes t) items < 2 ^ 64) at_time low in
@@ -37,8 +46,8 @@ rouse-requires-clause-can c =
     let next = c.self.inside.ready.next in
     let time = c.max-time.result in
     let moments = c.self.inside.deadlines.moments in
-    let woken : c.woken_at.result ≡ count_by (wakes time) items = c.woken_at.ensures ∙ ap (count_by (wakes time)) c.deref.ensures.value in
-    let low : next + count_by (wakes time) items < 2 ^ 64 = omega (arith, woken, c.next.ensures, c.if-woken_at-next.false) in
+    let low : next + count_by (wakes time) items < 2 ^ 64 = room_left time c.next.ensures c.deref.ensures.value
+    (sym c.runs_out_at.ensures ∙ c.if-runs_out_at.false) in
     let at_time : time ≡ time_at c.self.inside.time c.args.now = c.max-time.ensures ∙ ap (max c.self.inside.time) c.min.ensures in
     let start = IsOpen-start time moments items c.self.invariant.kept.timed in
     let due = c.in_ok-due.due.items in
@@ -55,8 +64,8 @@ rouse-requires-clause-fits c =
     let next = c.self.inside.ready.next in
     let time = c.max-time.result in
     let moments = c.self.inside.deadlines.moments in
-    let woken : c.woken_at.result ≡ count_by (wakes time) items = c.woken_at.ensures ∙ ap (count_by (wakes time)) c.deref.ensures.value in
-    let low : next + count_by (wakes time) items < 2 ^ 64 = omega (arith, woken, c.next.ensures, c.if-woken_at-next.false) in
+    let low : next + count_by (wakes time) items < 2 ^ 64 = room_left time c.next.ensures c.deref.ensures.value
+    (sym c.runs_out_at.ensures ∙ c.if-runs_out_at.false) in
     let at_time : time ≡ time_at c.self.inside.time c.args.now = c.max-time.ensures ∙ ap (max c.self.inside.time) c.min.ensures in
     let start = IsOpen-start time moments items c.self.invariant.kept.timed in
     let due = c.in_ok-due.due.items in
@@ -70,8 +79,8 @@ returns-in_err-rouse-clause-refused c =
     let next = c.self.inside.ready.next in
     let time = c.max-time.result in
     let moments = c.self.inside.deadlines.moments in
-    let woken : c.woken_at.result ≡ count_by (wakes time) items = c.woken_at.ensures ∙ ap (count_by (wakes time)) c.deref.ensures.value in
-    let low : next + count_by (wakes time) items < 2 ^ 64 = omega (arith, woken, c.next.ensures, c.if-woken_at-next.false) in
+    let low : next + count_by (wakes time) items < 2 ^ 64 = room_left time c.next.ensures c.deref.ensures.value
+    (sym c.runs_out_at.ensures ∙ c.if-runs_out_at.false) in
     let at_time : time ≡ time_at c.self.inside.time c.args.now = c.max-time.ensures ∙ ap (max c.self.inside.time) c.min.ensures in
     let low_then : next + count_by (wakes (time_at c.self.inside.time c.args.now)) items < 2 ^ 64 = subst
     (λ t. next + count_by (wakes t) items < 2 ^ 64) at_time low in
@@ -87,8 +96,8 @@ returns-clause-ok c =
     let next = c.self.inside.ready.next in
     let time = c.max-time.result in
     let moments = c.self.inside.deadlines.moments in
-    let woken : c.woken_at.result ≡ count_by (wakes time) items = c.woken_at.ensures ∙ ap (count_by (wakes time)) c.deref.ensures.value in
-    let low : next + count_by (wakes time) items < 2 ^ 64 = omega (arith, woken, c.next.ensures, c.if-woken_at-next.false) in
+    let low : next + count_by (wakes time) items < 2 ^ 64 = room_left time c.next.ensures c.deref.ensures.value
+    (sym c.runs_out_at.ensures ∙ c.if-runs_out_at.false) in
     let at_time : time ≡ time_at c.self.inside.time c.args.now = c.max-time.ensures ∙ ap (max c.self.inside.time) c.min.ensures in
     let start = IsOpen-start time moments items c.self.invariant.kept.timed in
     let due = c.in_ok-due.due.items in
