@@ -4,11 +4,11 @@
 // 1. Each byte has a mark or none. A reference's marks stand in a row and run down to its last byte.
 // 2. Bytes come in behind or in front, and leave at the front alone.
 // 3. A ticket is released when the last mark of its reference goes, or as it comes in where the reference has no bytes.
-ghost use Rattle.std.specs.Prelude.{◌≡◌, ◌≤◌, ◌<◌, ◌+◌, ◌-◌, ◌*◌, ◌^◌, ◌++◌, ◌∷◌, ◌==◌, ◌↔◌, [], length, drop, take, min, max, nat_lt, OnOk, OnErr};
+ghost use Rattle.std.specs.Prelude.{◌≡◌, ◌≤◌, ◌<◌, ◌+◌, ◌-◌, ◌*◌, ◌^◌, ◌++◌, ◌∷◌, ◌==◌, ◌↔◌, [], length, drop, take, min, nat_lt, OnOk, OnErr};
 ghost use Rattle.std.specs.Prelude.{IfOk, IfSome, IfNone, None, if◌then◌else◌};
 ghost use Rattle.evbuf_chain.specs.Answers.{AnswersOr, fault_of};
 ghost use Rattle.evbuf_chain.specs.Mark.{unmarked, reference_marks, ended_tickets, uncut_marks, AreWhole};
-ghost use Rattle.evbuf_chain.specs.Buffered.{length_refusal, joined, given_up};
+ghost use Rattle.evbuf_chain.specs.Buffered.{length_refusal, joined, given_up, most_spare};
 ghost use Rattle.evbuf_chain.specs.declared.fault.ChainFault.TheVariants.{Memory};
 ghost use Rattle.std.specs.Rc.{rc_slice_items};
 
@@ -111,7 +111,7 @@ impl Chain {
         ensures released { self.new.released ≡ self.old.released }
         ensures room { OnOk result (n ≤ self.new.spare) }
         ensures kept { self.old.spare ≤ self.new.spare }
-        ensures most { self.new.spare ≤ max self.old.spare (n + 7 * length self.old.bytes) }
+        ensures most { self.new.spare ≤ most_spare self.old.spare n (length self.old.bytes) }
         ensures err { OnErr result (self.new ≡ self.old) }
     {
         let _len = self.bytes.len();
@@ -139,7 +139,7 @@ impl Chain {
         ensures bytes { OnOk result (self.new.bytes ≡ self.old.bytes ++ bytes.now) }
         ensures marks { OnOk result (self.new.marks ≡ self.old.marks ++ unmarked (length bytes.now)) }
         ensures released { self.new.released ≡ self.old.released }
-        ensures most { self.new.spare ≤ max self.old.spare (7 * length self.old.bytes) }
+        ensures most { self.new.spare ≤ most_spare self.old.spare 0 (length self.old.bytes) }
         ensures err { OnErr result (self.new ≡ self.old) }
     {
         self.fits(bytes.len())?;
@@ -192,7 +192,7 @@ impl Chain {
         ensures marks { self.new.marks ≡ drop n self.old.marks }
         ensures released { self.new.released ≡ self.old.released ++ ended_tickets (take n self.old.marks) }
         ensures spare { self.old.spare ≤ self.new.spare }
-        ensures most { length self.new.bytes + self.new.spare ≤ 4 * length self.old.bytes + self.old.spare }
+        ensures most { length self.new.bytes + self.new.spare ≤ self.old.spare + 4 * length self.old.bytes }
     {
         let n = n.min(self.bytes.len());
         self.bytes.drop_front(n);
@@ -277,7 +277,7 @@ impl Chain {
 
         ensures released { self.new.released ≡ self.old.released }
         ensures to_released { to.new.released ≡ to.old.released }
-        ensures to_most { to.new.spare ≤ max to.old.spare (7 * length to.old.bytes) }
+        ensures to_most { to.new.spare ≤ most_spare to.old.spare 0 (length to.old.bytes) }
         ensures err { OnErr result (self.new ≡ self.old) }
         ensures to_err { OnErr result (to.new ≡ to.old) }
     {
