@@ -1,8 +1,9 @@
 // A buffer that nobody but its bufferevent reaches. It is frozen at no end, so that no call is refused for that, and it has
 // no reference and no size callback, so that all of it is its bytes.
-ghost use Rattle.std.specs.Prelude.{◌≡◌, ◌≤◌, ◌<◌, ◌+◌, ◌-◌, ◌^◌, ◌++◌, ◌==◌, [], length, drop, take, min, None, OnOk, OnErr, IfOk};
+ghost use Rattle.std.specs.Prelude.{◌≡◌, ◌≤◌, ◌<◌, ◌+◌, ◌-◌, ◌*◌, ◌^◌, ◌++◌, ◌==◌, [], length, drop, take, min, max, None, OnOk, OnErr, IfOk};
 ghost use Rattle.std.specs.Prelude.{if◌then◌else◌};
 ghost use Rattle.evbuf_chain.specs.Answers.{AnswersOr, fault_of};
+ghost use Rattle.evbuf_chain.specs.Buffered.{most_spare};
 ghost use Rattle.bev_core.specs.BevValue.{Held, nothing};
 ghost use Rattle.bev_core.specs.Moves.{GoesInto};
 ghost use Rattle.bev_core.specs.Refusals.{length_refusal};
@@ -74,6 +75,7 @@ impl OwnBuffer {
         ensures bytes { self.new.bytes ≡ self.old.bytes }
         ensures room { OnOk result (n ≤ self.new.spare) }
         ensures kept { self.old.spare ≤ self.new.spare }
+        ensures most { self.new.spare ≤ most_spare self.old.spare n (length self.old.bytes) }
         ensures err { OnErr result (self.new ≡ self.old) }
     {
         match self.buf.reserve(n) {
@@ -88,6 +90,7 @@ impl OwnBuffer {
         requires empty { spare.old.bytes ≡ [] }
         ensures bytes { self.new.bytes ≡ self.old.bytes }
         ensures room { n ≤ self.new.spare }
+        ensures most { self.new.spare ≤ max spare.old.spare (most_spare self.old.spare n (length self.old.bytes)) }
         ensures empty { spare.new.bytes ≡ [] }
     {
         if self.reserve(n).is_err() {
@@ -121,6 +124,7 @@ impl OwnBuffer {
     pub(crate) fn drain(&mut self, n: usize)
         ensures bytes { self.new.bytes ≡ drop n self.old.bytes }
         ensures spare { self.old.spare ≤ self.new.spare }
+        ensures most { length self.new.bytes + self.new.spare ≤ self.old.spare + 4 * length self.old.bytes }
     {
         let _len = self.buf.len();
         self.buf.drain(n).unwrap();

@@ -1,5 +1,5 @@
 // Room for bytes that lies beside the bufferevents.
-ghost use Rattle.std.specs.Prelude.{◌≡◌, ◌≤◌, OnOk};
+ghost use Rattle.std.specs.Prelude.{◌≡◌, ◌≤◌, max, OnOk};
 
 use crate::own_buffer::OwnBuffer;
 use ev_types::NoMemory;
@@ -37,12 +37,13 @@ impl SpareRoom {
         }
     }
 
-    /// Makes it room for at least n bytes. Takes memory, linear in n, where it is for fewer.
+    /// Makes it room for n bytes, where it is for fewer. Takes memory then, linear in n.
     ///
     /// Own.
     pub fn reserve(&mut self, n: usize) -> Result<(), NoMemory>
         ensures room { OnOk result (n ≤ self.new) }
         ensures kept { self.old ≤ self.new }
+        ensures most { self.new ≤ max self.old n }
     {
         self.buffer.reserve(n)
     }

@@ -4,10 +4,10 @@
 // 1. Bytes come in only where the end that they come in at isn't frozen, and leave only where the front isn't.
 // 2. Each change of the bytes is told to each callback that is enabled, once, in the same call.
 // 3. A number of a callback is not used again.
-ghost use Rattle.std.specs.Prelude.{◌≡◌, ◌≤◌, ◌+◌, ◌-◌, ◌^◌, ◌<◌, ◌++◌, ◌∷◌, [], length, drop, take, min, true, false, OnOk, OnErr, IfOk};
+ghost use Rattle.std.specs.Prelude.{◌≡◌, ◌≤◌, ◌+◌, ◌-◌, ◌*◌, ◌^◌, ◌<◌, ◌++◌, ◌∷◌, [], length, drop, take, min, true, false, OnOk, OnErr, IfOk};
 ghost use Rattle.std.specs.Prelude.{IfSome, IfNone, None, Some, option_map};
 ghost use Rattle.evbuf_chain.specs.Answers.{AnswersOr, fault_of};
-ghost use Rattle.evbuf_chain.specs.Buffered.{joined, PullupAnswer};
+ghost use Rattle.evbuf_chain.specs.Buffered.{joined, PullupAnswer, most_spare};
 ghost use Rattle.evbuf_chain.specs.Mark.{AreWhole};
 ghost use Rattle.evbuf.specs.Callbacks.{new_callback, without, with_enabled, report_of, newest_waiting, after_report};
 ghost use Rattle.evbuf.specs.Steps.{new_buffer, after_add, after_prepend, after_reference, after_drain, after_giving, after_taking};
@@ -110,8 +110,8 @@ impl Evbuffer {
         self.chain.give_up();
     }
 
-    /// Makes room for at least n more bytes at the end. No frozen end refuses it. Takes memory where there is less;
-    /// constant cost where there is room, else linear in the length.
+    /// Makes room for at least n more bytes at the end, and for no more than n and seven times the length where there was
+    /// less. No frozen end refuses it. Takes memory then; constant cost where there is room, else linear in the length.
     ///
     /// Libevent: event2/buffer.h, `evbuffer_expand`; "Evbuffers".
     pub fn reserve(&mut self, n: usize) -> Result<(), BufFault>
@@ -119,6 +119,7 @@ impl Evbuffer {
         ensures stays { self.new ≡ record self.old { spare = self.new.spare } }
         ensures room { OnOk result (n ≤ self.new.spare) }
         ensures kept { self.old.spare ≤ self.new.spare }
+        ensures most { self.new.spare ≤ most_spare self.old.spare n (length self.old.bytes) }
         ensures err { OnErr result (self.new ≡ self.old) }
     {
         self.chain.reserve(n)?;
@@ -140,13 +141,13 @@ impl Evbuffer {
         Ok(())
     }
 
-    /// Copies bytes in at the end. What is spare afterwards is left open. Takes memory where there is less room; linear
-    /// in the bytes, over many calls.
+    /// Copies bytes in at the end. Takes memory where there is less room; linear in the bytes, over many calls.
     ///
     /// Libevent: event2/buffer.h, `evbuffer_add`; "Evbuffers".
     pub fn add(&mut self, bytes: &[u8]) -> Result<(), BufFault>
         ensures answer { AnswersOr Memory result (add_refusal self.old (length bytes.now)) }
         ensures ok { OnOk result (self.new ≡ after_add self.old bytes.now self.new.spare) }
+        ensures most { self.new.spare ≤ most_spare self.old.spare 0 (length self.old.bytes) }
         ensures err { OnErr result (self.new ≡ self.old) }
     {
         self.end_open()?;
@@ -198,6 +199,7 @@ impl Evbuffer {
         ensures answer { fault_of result ≡ front_refusal self.old }
         ensures ok { OnOk result (self.new ≡ after_drain self.old n self.new.spare) }
         ensures spare { self.old.spare ≤ self.new.spare }
+        ensures most { OnOk result (length self.new.bytes + self.new.spare ≤ self.old.spare + 4 * length self.old.bytes) }
         ensures err { OnErr result (self.new ≡ self.old) }
     {
         self.front_open()?;
@@ -274,8 +276,7 @@ impl Evbuffer {
 
     /// Moves the first n bytes, or all where there are fewer, to the end of another buffer, and answers how many. Where
     /// a reference is cut its front part is copied, and the reference stays with the rest. Both tell their callbacks.
-    /// What is spare afterwards is left open in both. Takes memory where there is less room; linear in what it moves,
-    /// over many calls.
+    /// Takes memory where there is less room; linear in what it moves, over many calls.
     ///
     /// Libevent: event2/buffer.h, `evbuffer_remove_buffer`; "Evbuffers".
     pub fn remove_buffer(&mut self, to: &mut Evbuffer, n: usize) -> Result<usize, BufFault>
@@ -283,6 +284,7 @@ impl Evbuffer {
         ensures count { IfOk result (λ moved. moved ≡ min n (length self.old.bytes)) }
         ensures ok { OnOk result (self.new ≡ after_giving self.old n self.new.spare) }
         ensures to_ok { OnOk result (to.new ≡ after_taking to.old self.old n to.new.spare) }
+        ensures to_most { to.new.spare ≤ most_spare to.old.spare 0 (length to.old.bytes) }
         ensures err { OnErr result (self.new ≡ self.old) }
         ensures to_err { OnErr result (to.new ≡ to.old) }
     {

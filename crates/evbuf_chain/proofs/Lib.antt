@@ -1,4 +1,5 @@
 pub mod MarkLemmas
+pub mod QueueLemmas
 pub mod RunLemmas
 pub mod TicketLemmas
 pub mod UnmarkedLemmas

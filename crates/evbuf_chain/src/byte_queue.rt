@@ -1,16 +1,19 @@
-// Bytes in order, in one vector. The front is taken off by moving the start on; the bytes are moved down only where
-// at least three quarters of the vector lie before the start, so that draining in pieces stays linear.
-ghost use Rattle.std.specs.Prelude.{◌≡◌, ◌≤◌, ◌<◌, ◌+◌, ◌-◌, ◌^◌, ◌++◌, ◌⊎◌, [], length, drop, take, OnOk, OnErr, vec_len, vec_capacity};
+// Bytes in order, in one block all of whose bytes are initialized, so that bytes are written over others and what the block
+// is long is all the memory that is kept. The front is taken off by moving the start on; the bytes are moved down only
+// where at least three quarters of what lies before their end lie before the start, so that draining in pieces stays linear.
+ghost use Rattle.std.specs.Prelude.{◌≡◌, ◌≤◌, ◌<◌, ◌+◌, ◌-◌, ◌*◌, ◌^◌, ◌++◌, ◌⊎◌, [], length, drop, take, max, OnOk, OnErr, IfOk};
+ghost use Rattle.std.specs.Prelude.{vec_len, vec_capacity};
 
 use std::alloc::{AllocError, Global};
 use std::marker::Model;
 use std::mem::swap;
 
-/// The least part of the vector, as a divisor, that the bytes fill behind a start.
+/// The least part of what lies before the end, as a divisor, that the bytes fill behind a start.
 const SPARSE: usize = 3;
 
 /// Bytes in order, in one piece, and how many more fit behind them without taking memory. They are appended at the end and
-/// taken from the front; taking some costs their number, over many calls.
+/// taken from the front; taking some costs their number, over many calls. The bytes, the room before and the room behind
+/// are all the memory that is kept.
 ///
 /// Libevent: event2/buffer.h; "Evbuffers".
 /// Differs: the bytes lie in one piece.
@@ -18,7 +21,7 @@ const SPARSE: usize = 3;
 pub struct ByteQueue {
     kept: Vec<u8>,
     start: usize,
-    spare: usize,
+    end: usize,
 }
 
 impl Model for ByteQueue {
@@ -34,7 +37,7 @@ impl Model for ByteQueue {
 }
 
 impl ByteQueue {
-    ghost use Rattle.evbuf_chain.specs.Inner.{given_up_room};
+    ghost use Rattle.evbuf_chain.specs.Inner.{given_up_room, room_in_all};
 
     /// An empty queue. Takes no memory; constant.
     pub fn new(alloc: Global) -> ByteQueue
@@ -44,7 +47,7 @@ impl ByteQueue {
         ByteQueue {
             kept: Vec::new(alloc),
             start: 0,
-            spare: 0,
+            end: 0,
         }
     }
 
@@ -52,8 +55,10 @@ impl ByteQueue {
     pub fn len(&self) -> usize
         ensures len { result ≡ length self.now.items }
         ensures fits { length self.now.items + self.now.spare < 2 ^ 64 }
+        ensures front { self.now.front ≤ 3 * length self.now.items }
     {
-        self.kept.len() - self.start
+        let _size = self.kept.len();
+        self.end - self.start
     }
 
     pub(crate) fn allocator(&self) -> Global {
@@ -64,22 +69,48 @@ impl ByteQueue {
     pub fn as_slice(&self) -> &[u8]
         ensures { result.now ≡ self.now.items }
     {
-        let (_, bytes) = self.kept.as_slice().split_at(self.start);
+        let (upto, _) = self.kept.as_slice().split_at(self.end);
+        let (_, bytes) = upto.split_at(self.start);
         bytes
     }
 
-    /// Makes room behind the bytes for so many more. It takes memory where there is less; after a refusal nothing has changed.
+    // How many bytes more fit behind.
+    fn spare(&self) -> usize
+        ensures { result ≡ self.now.spare }
+    {
+        self.kept.len() - self.end
+    }
+
+    /// Makes room behind the bytes for so many more. Where there is less it takes memory: for what is used twice over, so that
+    /// appending in pieces stays linear, or for just so many where no more can be had. After a refusal nothing has changed.
     /// Constant where there is room, else linear in the length.
     pub fn reserve(&mut self, n: usize) -> Result<(), AllocError>
         ensures items { self.new.items ≡ self.old.items }
         ensures room { OnOk result (n ≤ self.new.spare) }
         ensures kept { self.old.spare ≤ self.new.spare }
+        ensures most { self.new.spare ≤ max self.old.spare (self.old.front + max n (self.old.front + length self.old.items)) }
         ensures err { OnErr result (self.new ≡ self.old) }
     {
-        if self.spare < n {
-            self.kept.reserve(n)?;
-            self.spare = n;
+        if self.spare() >= n {
+            return Ok(());
         }
+        let twice = self.start.saturating_add(n.max(self.end));
+        if self.move_before(twice).is_ok() {
+            return Ok(());
+        }
+        self.move_before(n)
+    }
+
+    // Moves the bytes to a block with so much room behind them and none in front. After a refusal nothing has changed.
+    fn move_before(&mut self, spare: usize) -> Result<(), AllocError>
+        ensures items { self.new.items ≡ self.old.items }
+        ensures spare { OnOk result (self.new.spare ≡ spare) }
+        ensures err { OnErr result (self.new ≡ self.old) }
+    {
+        let len = self.len();
+        self.kept = block(self.allocator(), 0, &[], self.as_slice(), spare)?;
+        self.start = 0;
+        self.end = len;
         Ok(())
     }
 
@@ -87,21 +118,26 @@ impl ByteQueue {
     pub fn push(&mut self, bytes: &[u8])
         requires { length bytes.now ≤ self.old.spare }
         ensures items { self.new.items ≡ self.old.items ++ bytes.now }
+        ensures front { self.new.front ≡ self.old.front }
         ensures spare { self.new.spare + length bytes.now ≡ self.old.spare }
     {
-        self.kept.extend_from_slice(bytes).unwrap();
-        self.spare -= bytes.len();
+        write_at(&mut self.kept, self.end, bytes);
+        self.end += bytes.len();
     }
 
-    /// Takes off the first n. Takes no memory; linear in n, over many calls.
+    /// Takes off the first n. Takes no memory; linear in n, over many calls. The room in all stays, and at most three times
+    /// the bytes that are there lie in front of them.
     pub fn drop_front(&mut self, n: usize)
         requires { n ≤ length self.old.items }
         ensures items { self.new.items ≡ drop n self.old.items }
-        ensures spare { self.new.spare ≡ self.old.spare }
+        ensures spare { self.old.spare ≤ self.new.spare }
+        ensures room { room_in_all self.new ≡ room_in_all self.old }
+        ensures front { self.new.front ≤ 3 * length self.new.items }
     {
         self.start += n;
-        if self.kept.len() - self.start <= self.start / SPARSE {
-            pull_down(&mut self.kept, self.start);
+        if self.end - self.start <= self.start / SPARSE {
+            pull_down(&mut self.kept, self.start, self.end);
+            self.end -= self.start;
             self.start = 0;
         }
     }
@@ -127,11 +163,11 @@ impl ByteQueue {
     pub(crate) fn give_up(&mut self)
         ensures { self.new ≡ given_up_room self.old }
     {
-        if self.kept.len() == self.start {
+        if self.end == self.start {
             let alloc = self.allocator();
             self.kept = Vec::new(alloc);
             self.start = 0;
-            self.spare = 0;
+            self.end = 0;
         }
     }
 
@@ -142,7 +178,7 @@ impl ByteQueue {
         ensures err { OnErr result (self.new ≡ self.old) }
     {
         if self.start < bytes.len() {
-            self.make_front(bytes.len())?;
+            return self.move_behind(bytes);
         }
         let from = self.start - bytes.len();
         write_at(&mut self.kept, from, bytes);
@@ -150,39 +186,68 @@ impl ByteQueue {
         Ok(())
     }
 
-    /// Makes room in front for n more and for half of what is there, so that putting bytes in front in pieces stays
-    /// linear. After a refusal nothing has changed.
-    fn make_front(&mut self, n: usize) -> Result<(), AllocError>
-        ensures items { self.new.items ≡ self.old.items }
-        ensures front { OnOk result (n ≤ self.new.front) }
+    // Puts bytes in front in a block of their own with room in front for half of what was there, so that putting bytes in
+    // front in pieces stays linear. After a refusal nothing has changed.
+    fn move_behind(&mut self, bytes: &[u8]) -> Result<(), AllocError>
+        ensures items { OnOk result (self.new.items ≡ bytes.now ++ self.old.items) }
         ensures spare { self.new.spare ≡ self.old.spare }
         ensures err { OnErr result (self.new ≡ self.old) }
     {
-        let front = n.checked_add(self.len() / 2).ok_or(AllocError)?;
-        let behind = self.kept.capacity() - self.start;
-        let capacity = front.checked_add(behind).ok_or(AllocError)?;
-        let mut kept = Vec::with_capacity(*self.kept.allocator(), capacity)?;
-        kept.resize(front, 0)?;
-        kept.extend_from_slice(self.as_slice())?;
-        self.kept = kept;
+        let len = self.len();
+        let front = len / 2;
+        self.kept = block(
+            self.allocator(),
+            front,
+            bytes,
+            self.as_slice(),
+            self.spare(),
+        )?;
         self.start = front;
+        self.end = front + bytes.len() + len;
         Ok(())
     }
 }
 
-// Moves what stands behind a place to the front, and drops what stood before it.
-fn pull_down(kept: &mut Vec<u8>, start: usize)
-    requires within { start ≤ vec_len kept.old }
-    requires apart { vec_len kept.old ≤ start + start }
-    ensures items { kept.new.items ≡ drop start kept.old.items }
-    ensures len { vec_len kept.new + start ≡ vec_len kept.old }
+// A block of just so much room, the bytes of two slices, and so much room again.
+fn block(
+    alloc: Global,
+    front: usize,
+    first: &[u8],
+    bytes: &[u8],
+    spare: usize,
+) -> Result<Vec<u8>, AllocError>
+    ensures len { IfOk result (λ v. vec_len v ≡ front + (length first.now + length bytes.now) + spare) }
+    ensures whole { IfOk result (λ v. vec_capacity v ≡ vec_len v) }
+    ensures bytes { IfOk result (λ v. drop front (take (front + (length first.now + length bytes.now)) v.items)
+        ≡ first.now ++ bytes.now) }
+{
+    let count = first.len().checked_add(bytes.len()).ok_or(AllocError)?;
+    let end = front.checked_add(count).ok_or(AllocError)?;
+    let size = end.checked_add(spare).ok_or(AllocError)?;
+    let mut kept = Vec::with_capacity(alloc, size)?;
+    kept.resize(front, 0)?;
+    kept.extend_from_slice(first)?;
+    kept.extend_from_slice(bytes)?;
+    kept.resize(size, 0)?;
+    // No contract says that a vector keeps its block where it has room, so one that took another is no block.
+    if kept.capacity() != size {
+        return Err(AllocError);
+    }
+    Ok(kept)
+}
+
+// Moves what stands between two places to the front.
+fn pull_down(kept: &mut Vec<u8>, start: usize, end: usize)
+    requires within { (start ≤ end) × (end ≤ vec_len kept.old) }
+    requires apart { end ≤ start + start }
+    ensures items { take (end - start) kept.new.items ≡ drop start (take end kept.old.items) }
+    ensures len { vec_len kept.new ≡ vec_len kept.old }
     ensures capacity { vec_capacity kept.new ≡ vec_capacity kept.old }
 {
-    let rest = kept.len() - start;
     let (front, back) = kept.as_mut_slice().split_at_mut(start);
-    let (front, _) = front.split_at_mut(rest);
-    front.copy_from_slice(back);
-    kept.truncate(rest);
+    let (front, _) = front.split_at_mut(end - start);
+    let (bytes, _) = back.split_at(end - start);
+    front.copy_from_slice(bytes);
 }
 
 // Writes bytes over what stands at a place.

@@ -4,11 +4,11 @@
 // 1. Each byte has a mark or none. A reference's marks stand in a row and run down to its last byte.
 // 2. Bytes come in behind or in front, and leave at the front alone.
 // 3. A ticket is released when the last mark of its reference goes, or as it comes in where the reference has no bytes.
-ghost use Rattle.std.specs.Prelude.{◌≡◌, ◌≤◌, ◌<◌, ◌+◌, ◌-◌, ◌^◌, ◌++◌, ◌∷◌, ◌==◌, ◌↔◌, [], length, drop, take, min, nat_lt, OnOk, OnErr};
+ghost use Rattle.std.specs.Prelude.{◌≡◌, ◌≤◌, ◌<◌, ◌+◌, ◌-◌, ◌*◌, ◌^◌, ◌++◌, ◌∷◌, ◌==◌, ◌↔◌, [], length, drop, take, min, nat_lt, OnOk, OnErr};
 ghost use Rattle.std.specs.Prelude.{IfOk, IfSome, IfNone, None, if◌then◌else◌};
 ghost use Rattle.evbuf_chain.specs.Answers.{AnswersOr, fault_of};
 ghost use Rattle.evbuf_chain.specs.Mark.{unmarked, reference_marks, ended_tickets, uncut_marks, AreWhole};
-ghost use Rattle.evbuf_chain.specs.Buffered.{length_refusal, joined, given_up};
+ghost use Rattle.evbuf_chain.specs.Buffered.{length_refusal, joined, given_up, most_spare};
 ghost use Rattle.evbuf_chain.specs.declared.fault.ChainFault.TheVariants.{Memory};
 ghost use Rattle.std.specs.Rc.{rc_slice_items};
 
@@ -102,8 +102,8 @@ impl Chain {
         self.bytes.give_up();
     }
 
-    /// Makes room for at least n more bytes at the end. Takes memory where there is less; constant cost where there is
-    /// room, else linear in the length.
+    /// Makes room for at least n more bytes at the end, and for no more than n and seven times the length where there was
+    /// less. Takes memory then; constant cost where there is room, else linear in the length.
     pub fn reserve(&mut self, n: usize) -> Result<(), ChainFault>
         ensures answer { AnswersOr Memory result None }
         ensures bytes { self.new.bytes ≡ self.old.bytes }
@@ -111,8 +111,10 @@ impl Chain {
         ensures released { self.new.released ≡ self.old.released }
         ensures room { OnOk result (n ≤ self.new.spare) }
         ensures kept { self.old.spare ≤ self.new.spare }
+        ensures most { self.new.spare ≤ most_spare self.old.spare n (length self.old.bytes) }
         ensures err { OnErr result (self.new ≡ self.old) }
     {
+        let _len = self.bytes.len();
         self.bytes.reserve(n)?;
         Ok(())
     }
@@ -131,12 +133,13 @@ impl Chain {
     }
 
     /// Copies bytes in at the end. Where the length would not fit a usize it is refused as Spent, before want of memory.
-    /// What is spare afterwards is left open. Takes memory where there is less room; linear in the bytes, over many calls.
+    /// Takes memory where there is less room; linear in the bytes, over many calls.
     pub fn push_copy(&mut self, bytes: &[u8]) -> Result<(), ChainFault>
         ensures answer { AnswersOr Memory result (length_refusal (length self.old.bytes + length bytes.now)) }
         ensures bytes { OnOk result (self.new.bytes ≡ self.old.bytes ++ bytes.now) }
         ensures marks { OnOk result (self.new.marks ≡ self.old.marks ++ unmarked (length bytes.now)) }
         ensures released { self.new.released ≡ self.old.released }
+        ensures most { self.new.spare ≤ most_spare self.old.spare 0 (length self.old.bytes) }
         ensures err { OnErr result (self.new ≡ self.old) }
     {
         self.fits(bytes.len())?;
@@ -174,6 +177,7 @@ impl Chain {
         ensures bytes { OnOk result (self.new.bytes ≡ bytes.now ++ self.old.bytes) }
         ensures marks { OnOk result (self.new.marks ≡ unmarked (length bytes.now) ++ self.old.marks) }
         ensures released { self.new.released ≡ self.old.released }
+        ensures spare { self.new.spare ≡ self.old.spare }
         ensures err { OnErr result (self.new ≡ self.old) }
     {
         self.fits(bytes.len())?;
@@ -188,6 +192,7 @@ impl Chain {
         ensures marks { self.new.marks ≡ drop n self.old.marks }
         ensures released { self.new.released ≡ self.old.released ++ ended_tickets (take n self.old.marks) }
         ensures spare { self.old.spare ≤ self.new.spare }
+        ensures most { length self.new.bytes + self.new.spare ≤ self.old.spare + 4 * length self.old.bytes }
     {
         let n = n.min(self.bytes.len());
         self.bytes.drop_front(n);
@@ -259,8 +264,7 @@ impl Chain {
 
     /// Moves the first n bytes, or all where there are fewer, to the end of another chain, and answers how many. Where a
     /// reference is cut, its front part is copied and the reference stays with the rest. Where the other chain's length
-    /// would not fit a usize it is refused as Spent, before want of memory. What is spare in either is left open. Takes
-    /// memory where there is less room; linear in what it moves, over many calls.
+    /// would not fit a usize it is refused as Spent, before want of memory. Takes memory where there is less room; linear in what it moves, over many calls.
     ///
     /// Libevent: event2/buffer.h, `evbuffer_remove_buffer`; "Evbuffers".
     pub fn split_front(&mut self, n: usize, to: &mut Chain) -> Result<usize, ChainFault>
@@ -273,6 +277,7 @@ impl Chain {
 
         ensures released { self.new.released ≡ self.old.released }
         ensures to_released { to.new.released ≡ to.old.released }
+        ensures to_most { to.new.spare ≤ most_spare to.old.spare 0 (length to.old.bytes) }
         ensures err { OnErr result (self.new ≡ self.old) }
         ensures to_err { OnErr result (to.new ≡ to.old) }
     {

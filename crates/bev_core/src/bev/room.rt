@@ -1,6 +1,7 @@
 // Room that is made in a buffer before, and bytes that come into it.
-ghost use Rattle.std.specs.Prelude.{◌≡◌, ◌≤◌, ◌+◌, length, OnOk, OnErr};
+ghost use Rattle.std.specs.Prelude.{◌≡◌, ◌≤◌, ◌+◌, length, max, OnOk, OnErr};
 ghost use Rattle.evbuf_chain.specs.Answers.{AnswersOr};
+ghost use Rattle.evbuf_chain.specs.Buffered.{most_spare};
 ghost use Rattle.bev_core.specs.Refusals.{live_refusal};
 ghost use Rattle.bev_core.specs.Steps.{held, with_held, more, fed_reserved};
 ghost use Rattle.bev_core.specs.declared.fault.BevFault.TheVariants.{Memory};
@@ -20,6 +21,7 @@ impl Bev {
         ensures stays { self.new ≡ record self.old { input = record self.old.input { spare = self.new.input.spare } } }
         ensures room { OnOk result (n ≤ self.new.input.spare) }
         ensures kept { self.old.input.spare ≤ self.new.input.spare }
+        ensures most { self.new.input.spare ≤ most_spare self.old.input.spare n (length self.old.input.bytes) }
         ensures err { OnErr result (self.new ≡ self.old) }
     {
         self.check_live()?;
@@ -35,6 +37,7 @@ impl Bev {
         ensures stays { self.new ≡ with_held self.old dir (record (held self.old dir) { spare = (held self.new dir).spare }) }
         ensures room { OnOk result (n ≤ (held self.new dir).spare) }
         ensures kept { (held self.old dir).spare ≤ (held self.new dir).spare }
+        ensures most { (held self.new dir).spare ≤ most_spare (held self.old dir).spare n (length (held self.old dir).bytes) }
         ensures err { OnErr result (self.new ≡ self.old) }
     {
         match dir {
@@ -64,7 +67,8 @@ impl Bev {
     /// Own.
     pub fn feed_with_spare(&mut self, bytes: &[u8], spare: &mut SpareRoom)
         requires { length self.old.input.bytes + length bytes.now ≤ spare.old }
-        ensures { self.new ≡ record self.old { input = more self.old.input bytes.now self.new.input.spare } }
+        ensures fed { self.new ≡ record self.old { input = more self.old.input bytes.now self.new.input.spare } }
+        ensures most { self.new.input.spare ≤ max spare.old (most_spare self.old.input.spare 0 (length self.old.input.bytes)) }
     {
         self.input.find_room(bytes.len(), &mut spare.buffer);
         self.input.feed_reserved(bytes);
