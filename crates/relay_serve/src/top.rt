@@ -28,8 +28,8 @@ pub fn serve<R: Wait, P: Port, S: Scribe, K: Sink>(
     scribe: &mut S,
     sink: &mut K,
 ) -> Status
-    // What the call did, by its status: usage exactly for words that are not in the grammar; else the trace that a relay made with
-    // their settings and these hooks, over a port that was started with their addresses and is tied to that trace, and its report.
+    // What the call did, by its status: for words that are not in the grammar usage, or out of memory; else the trace that a relay made
+    // with their settings and these hooks, over a port that was started with their addresses and is tied to that trace, and its report.
     ensures did { DidWith (serve_words_of (map string_bytes words.now)) (seated_sides hooks.items) result
         (seen P.Port S.Scribe (port.old, scribe.old)) (seen P.Port S.Scribe (port.new, scribe.new))
         (drained K.Sink sink.old) (drained K.Sink sink.new) }

@@ -3,7 +3,6 @@
 #![tactic(auto)]
 
 #[cfg(test)]
-#[cfg(test)]
 mod entry_lines;
 #[cfg(test)]
 mod limits;
@@ -17,4 +16,5 @@ mod script_lines;
 mod setting_lines;
 #[cfg(test)]
 mod traces;
+#[cfg(test)]
 mod words;
