@@ -47,6 +47,22 @@ fn take_due(waiting: &mut Vec<Waiting>, now: u64) -> Option<(u64, u64)> {
     Some((first.key, first.deadline))
 }
 
+/// The keys of those that are due, in order.
+fn due_keys(alloc: Global, waiting: &[Waiting], now: u64) -> Result<Vec<u64>, TimerFault> {
+    let mut rest = Vec::new(alloc);
+    for timer in waiting {
+        rest.push(*timer)?;
+    }
+    let mut keys = Vec::new(alloc);
+    for _ in 0..waiting.len() {
+        let Some((key, _)) = take_due(&mut rest, now) else {
+            break;
+        };
+        keys.push(key)?;
+    }
+    Ok(keys)
+}
+
 fn cancel(waiting: &mut Vec<Waiting>, number: u64) -> Result<u64, TimerFault> {
     let mut found = Err(TimerFault::NotPending);
     for timer in waiting.iter() {
@@ -109,6 +125,12 @@ fn cancels_alike(both: &mut Both, place: usize) -> bool {
     }
 }
 
+/// Do both tell the same as due?
+fn tells_alike(both: &Both, now: u64) -> Result<bool, TimerFault> {
+    let alloc = *both.waiting.allocator();
+    Ok(both.timers.due(alloc, now)? == due_keys(alloc, &both.waiting, now)?)
+}
+
 /// Makes one call, at a moment and by a random number; do both answer the same?
 fn is_alike(both: &mut Both, now: u32, random: u64) -> Result<bool, TimerFault> {
     let some = random / 8;
@@ -120,6 +142,10 @@ fn is_alike(both: &mut Both, now: u32, random: u64) -> Result<bool, TimerFault> 
         5 => {
             let place = (some % 4_096) as usize;
             return Ok(cancels_alike(both, place));
+        }
+        6 if some % 4 == 0 => {
+            let now = u64::from(now / 2 + 10);
+            return tells_alike(both, now);
         }
         _ => {
             let now = u64::from(now / 2);

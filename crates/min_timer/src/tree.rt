@@ -3,6 +3,7 @@
 ghost use Rattle.std.specs.Prelude.{◌≡◌, ◌≢◌, ℕ, ◌+◌, ◌*◌, ◌^◌, ◌<◌, ◌≤◌, length, OnOk};
 ghost use Rattle.min_timer.specs.Order.{is_before, sooner, first_at, first_below, IsTree};
 ghost use Rattle.slab.specs.Slab.{get};
+ghost use Rattle.std.specs.Option.{option_copied};
 
 use crate::timers::Timer;
 use slab::Slab;
@@ -12,16 +13,16 @@ use std::alloc::AllocError;
 pub(crate) type First = Option<Timer>;
 
 /// Whether a timer comes due before another.
-fn is_before(first: Timer, second: Timer) -> bool
-    ensures { result ≡ is_before first second }
+fn is_before(first: &Timer, second: &Timer) -> bool
+    ensures { result ≡ is_before first.now second.now }
 {
     first.deadline < second.deadline
         || (first.deadline == second.deadline && first.handle.stamp < second.handle.stamp)
 }
 
 /// Of two timers, each of which may be absent, the one that comes due first.
-fn sooner(a: First, b: First) -> First
-    ensures { result ≡ sooner a b }
+fn sooner<'a>(a: Option<&'a Timer>, b: Option<&'a Timer>) -> Option<&'a Timer>
+    ensures { option_copied result ≡ sooner (option_copied a.entry) (option_copied b.entry) }
 {
     match (a, b) {
         (None, _) => b,
@@ -47,15 +48,25 @@ pub(crate) fn timer_in(slots: &Slab<Timer>, slot: usize) -> First
     slots.get(slot).copied()
 }
 
-/// What comes first of a slot and of the two places below it.
+/// What stands at a place, where it is kept, or None past the end.
+fn stands_at(firsts: &[First], place: usize) -> Option<&Timer>
+    ensures { option_copied result ≡ first_at firsts.now place }
+{
+    match firsts.get(place) {
+        Some(Some(first)) => Some(first),
+        _ => None,
+    }
+}
+
+/// What comes first of a slot and of the two places below it. No timer is copied but the one that is answered.
 fn first_below(slots: &Slab<Timer>, firsts: &[First], place: usize) -> First
     requires { place < length firsts.now }
     ensures { result ≡ first_below slots.now firsts.now place }
 {
-    let own = timer_in(slots, place);
-    let left = first_at(firsts, 2 * place + 1);
-    let right = first_at(firsts, 2 * place + 2);
-    sooner(sooner(own, left), right)
+    let own = slots.get(place);
+    let left = stands_at(firsts, 2 * place + 1);
+    let right = stands_at(firsts, 2 * place + 2);
+    sooner(sooner(own, left), right).copied()
 }
 
 /// Puts the places right again after one slot changed: its own and those above it, up to one that stays.
