@@ -100,7 +100,7 @@ pub record HasGroups (given : RateGroups) (still : Bool) (x : GroupsValue) : Typ
 pub record IsSound (r : Inside) : Type 0 where
   pub timed : AreSound r.settings r.time r.untimed r.sides.links
   pub grouped : HasGroups r.given r.untimed r.groups.value
-  pub watching : IsWatching r.resting r.time r.sides.links r.groups.value
+  pub watching : IsWatching r.resting r.time r.sides.links
   pub grouping : IsGrouping r.grouped r.sides.links.opened r.groups.value.members
   pub time : r.time ≤ 2 ^ 62
   pub few : r.asks ≤ 256
