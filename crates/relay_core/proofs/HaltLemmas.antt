@@ -1,10 +1,10 @@
 -- Who is in no group, as others join and leave; and whether a group leaves its members something.
-use Rattle.std.specs.Prelude.{option_map, if◌then◌else◌, slice_get, max, map}
+use Rattle.std.specs.Prelude.{option_map, unwrap_or, if◌then◌else◌, slice_get, slice_set, max, map, length}
 use Rattle.std.specs.Option.{option_map_or}
 use Rattle.std.specs.List.{All}
 use Rattle.std.specs.Map.{remove_entry}
-use Rattle.std.proofs.Common.{◌≡◌, ◌≢◌, ℕ, zero, suc, ◌/◌, ◌≤◌, Bool, true, false, not, nat_le, nat_eq, List, [], ◌∷◌}
-use Rattle.std.proofs.Common.{Option, Some, None, inl, inr, refl, ◌∙◌, ap, arith}
+use Rattle.std.proofs.Common.{◌≡◌, ◌≢◌, ℕ, zero, suc, ◌+◌, ◌/◌, ◌<◌, ◌≤◌, Bool, true, false, not, nat_le, nat_eq, List, [], ◌∷◌}
+use Rattle.std.proofs.Common.{Option, Some, None, inl, inr, refl, sym, ◌∙◌, ap, subst, arith}
 use Rattle.std.proofs.lemmas.Bool.{le-leb}
 use Rattle.std.proofs.lemmas.Bool.Decides.{eqb_tells}
 use Rattle.std.proofs.lemmas.List.Elements.{All-head, All-tail}
@@ -19,6 +19,7 @@ use Rattle.rate_group.proofs.KnownMembers.{group-insert}
 use Rattle.relay_state.specs.Opening.{joined_where}
 use Rattle.relay_core.specs.Timeless.{leaves_some}
 use Rattle.relay_core.specs.Halts.{halts_of, halts_in, is_free}
+use Rattle.relay_core.specs.declared.halts.Halts.{Halts}
 
 -- who is in no group is in none once another has left
 pub left-keeps : (member k : ℕ) (es : List (ℕ × ℕ)) → group_of member es ≡ None → group_of member (remove_entry (nat_eq k) es) ≡ None
@@ -81,3 +82,58 @@ free-by member d x shares = go (group_of member x.members)
         ≡ is_free (map halts_of x.groups) d o
     go None = refl
     go (Some n) = at (count_in n x.members) x.groups n shares
+
+-- Groups are noted one after the other.
+
+set-same : {A : Type 0} (xs : List A) (j : ℕ) (x : A) → j < length xs → slice_get (slice_set xs j x) j ≡ Some x
+set-same [] j x lt = absurd (omega (arith, lt))
+set-same (y ∷ ys) zero x lt = refl
+set-same (y ∷ ys) (suc j) x lt = set-same ys j x (omega (arith, lt))
+
+set-other : {A : Type 0} (xs : List A) (j k : ℕ) (x : A) → k ≢ j → slice_get (slice_set xs j x) k ≡ slice_get xs k
+set-other [] j k x apart = refl
+set-other (y ∷ ys) zero zero x apart = absurd (apart refl)
+set-other (y ∷ ys) zero (suc k) x apart = refl
+set-other (y ∷ ys) (suc j) zero x apart = refl
+set-other (y ∷ ys) (suc j) (suc k) x apart = set-other ys j k x (λ same. apart (ap suc same))
+
+set-length : {A : Type 0} (xs : List A) (j : ℕ) (x : A) → length (slice_set xs j x) ≡ length xs
+set-length [] j x = refl
+set-length (y ∷ ys) zero x = refl
+set-length (y ∷ ys) (suc j) x = ap suc (set-length ys j x)
+
+-- of the groups up to a number it is noted in which directions they are suspended
+abbrev pub AreNoted : ℕ → List Halts → List GroupValue → Type 0
+AreNoted at xs gs = (k : ℕ) → k < at → slice_get xs k ≡ option_map halts_of (slice_get gs k)
+
+pub noted-next : (xs ys : List Halts) (gs : List GroupValue) (at : ℕ) → at < length xs →
+    option_map (λ h. slice_set xs at h) (option_map halts_of (slice_get gs at)) ≡ Some ys → AreNoted at xs gs →
+    (length ys ≡ length xs) × AreNoted (at + 1) ys gs
+noted-next xs ys gs at lt is before = go (slice_get gs at) refl is
+  where
+    next : (g : GroupValue) → slice_get gs at ≡ Some g → AreNoted (at + 1) (slice_set xs at (halts_of g)) gs
+    next g here k below = elim (eqb_tells k at) [
+      | inl same ↦
+          ap (slice_get (slice_set xs at (halts_of g))) same.1 ∙ set-same xs at (halts_of g) lt
+          ∙ sym (ap (option_map halts_of) (ap (slice_get gs) same.1 ∙ here))
+      | inr apart ↦ set-other xs at k (halts_of g) apart.1 ∙ before k (let other = apart.1 in omega (arith, below, other))
+    ]
+
+    go : (o : Option GroupValue) → slice_get gs at ≡ o → option_map (λ h. slice_set xs at h) (option_map halts_of o) ≡ Some ys →
+        (length ys ≡ length xs) × AreNoted (at + 1) ys gs
+    go None here is = absurd (let wrong : None ≡ Some ys = is in cc)
+    go (Some g) here is =
+        let same : slice_set xs at (halts_of g) ≡ ys = ap (λ o. unwrap_or o xs) is in (
+          sym (ap length same) ∙ set-length xs at (halts_of g),
+          subst (λ zs. AreNoted (at + 1) zs gs) same (next g here),
+        )
+
+-- in the end of all
+pub noted-all : (xs : List Halts) (gs : List GroupValue) → length xs ≡ length gs → AreNoted (length gs) xs gs → xs ≡ map halts_of gs
+noted-all [] [] same h = refl
+noted-all [] (g ∷ gs) same h = absurd (omega (arith, same))
+noted-all (x ∷ xs) [] same h = absurd (omega (arith, same))
+noted-all (x ∷ xs) (g ∷ gs) same h =
+    let first : x ≡ halts_of g = ap (λ o. unwrap_or o x) (h zero (omega arith)) in
+    let rest = noted-all xs gs (omega (arith, same)) (λ k lt. h (suc k) (omega (arith, lt))) in
+    λ i. first i ∷ rest i

@@ -1,6 +1,6 @@
 -- Which links are watched stays right: a link is watched where a side of it may begin to wait for a moment, and the other sides are as
 -- they were.
-use Rattle.std.specs.Prelude.{slice_index_or, slice_set, if◌then◌else◌, is_some, not}
+use Rattle.std.specs.Prelude.{slice_index_or, slice_set, if◌then◌else◌, is_some}
 use Rattle.std.proofs.Common.{◌≡◌, ◌≢◌, ℕ, zero, suc, ◌+◌, ◌*◌, ◌<◌, ◌≤◌, ◌==◌, Bool, true, false, ◌&&◌, nat_le, nat_eq}
 use Rattle.std.proofs.Common.{List, [], ◌∷◌, ◌++◌, length, Option, Some, None, Result, Ok, Err, MatchResult, inl, inr, refl, sym, ◌∙◌, ap}
 use Rattle.std.proofs.Common.{subst, arith}

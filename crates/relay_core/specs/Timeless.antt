@@ -1,7 +1,6 @@
 -- At which sides time changes nothing, or nothing until a moment, and which links are watched for it.
-use Rattle.std.specs.Prelude.{◌≡◌, ℕ, ◌*◌, ◌<◌, ◌≤◌, Bool, true, false, ◌&&◌, ◌||◌, nat_le, if◌then◌else◌, slice_get, List, [], length}
+use Rattle.std.specs.Prelude.{◌≡◌, ℕ, ◌*◌, ◌<◌, ◌≤◌, Bool, true, false, ◌&&◌, nat_le, if◌then◌else◌, List, [], length}
 use Rattle.std.specs.Prelude.{Option, Some, None, option_map, option_to_list}
-use Rattle.std.specs.Option.{option_map_or}
 use Rattle.token_bucket.specs.declared.limit.Dir.{Dir}
 use Rattle.token_bucket.specs.declared.limit.Dir.TheVariants as dir
 use Rattle.ev_types.specs.declared.side.SideId.{SideId}
@@ -9,13 +8,12 @@ use Rattle.ev_types.specs.Sides.{number}
 use Rattle.next_moments.specs.Earliest.{moment_for}
 use Rattle.number_set.specs.Numbers.{NumberSetValue}
 use Rattle.resting_links.specs.RestingValue.{RestingValue, side_moment}
-use Rattle.rate_group.specs.GroupValue.{GroupValue, GroupsValue}
 use Rattle.rate_group.specs.Steps.{group_of}
 use Rattle.relay_model.specs.Plain.{PlainSide, Standing, is_live, side_at}
 use Rattle.relay_model.specs.Moments.{is_timed}
 use Rattle.relay_state.specs.Running.{Gauge, held_at}
 use Rattle.relay_state.specs.State.{State, gauge_at}
-use Rattle.relay_state.specs.Rooms.{allowance, share}
+use Rattle.relay_state.specs.Rooms.{allowance}
 use Rattle.relay_sides.specs.KeptLimits.{limit_gains}
 use Rattle.relay_sides.specs.Links as links
 use Rattle.relay_sides.specs.Links.{Links}

@@ -1,6 +1,6 @@
 // In which directions groups are suspended, and which links have members. Who keeps a note of that knows when the members of groups may
 // want something else than before.
-ghost use Rattle.std.specs.Prelude.{◌≡◌, ℕ, ◌<◌, ◌≤◌, false, None, length, map, slice_get, OnOk};
+ghost use Rattle.std.specs.Prelude.{◌≡◌, ◌<◌, ◌≤◌, ◌^◌, true, false, Some, None, slice_set, length, map, slice_get, OnOk, IfOk};
 ghost use Rattle.std.specs.Option.{option_map};
 ghost use Rattle.ev_types.specs.declared.side.SideId.{SideId};
 ghost use Rattle.ev_types.specs.Sides.{number};
@@ -24,6 +24,13 @@ pub struct Halts {
     pub writes: bool,
 }
 
+/// Whether a group is suspended in the directions that were noted.
+fn is_same(noted: &Halts, now: &Halts) -> bool
+    ensures { result ≡ true → noted.now ≡ now.now }
+{
+    noted.reads == now.reads && noted.writes == now.writes
+}
+
 impl Relay {
     /// The links of which a side may be in a group. Constant; takes no memory.
     ///
@@ -33,6 +40,16 @@ impl Relay {
             group_of (number e) self.now.state.groups.members ≡ None }
     {
         &self.ctl.grouped
+    }
+
+    /// How many groups there are. By whether they are suspended a side's group leaves it something or nothing.
+    fn group_count(&self) -> usize
+        ensures count { result ≡ length self.now.state.groups.groups }
+        ensures few { result ≤ 2 ^ 32 }
+        ensures free { (e : SideId) (d : Dir) → leaves_some (share self.now.state e d)
+            ≡ is_free (map halts_of self.now.state.groups.groups) d (group_of (number e) self.now.state.groups.members) }
+    {
+        self.ctl.given.groups.len()
     }
 
     /// In which directions a group is suspended. None exactly for no group.
@@ -45,18 +62,40 @@ impl Relay {
         })
     }
 
-    /// Gives a note a place for each group. Takes memory where there are fewer, which is before the first turn alone; linear in what is added.
+    /// Gives a note a place for each group, and answers whether it had one already, and changed nothing then. Takes memory where it had fewer,
+    /// which is before the first turn alone; linear in what is added.
     ///
     /// Own.
-    pub fn lengthen_halts(&self, seen: &mut Vec<Halts>) -> Result<(), NoMemory>
-        ensures { OnOk result (length seen.new.items ≡ length self.now.state.groups.groups) }
+    pub fn lengthen_halts(&self, seen: &mut Vec<Halts>) -> Result<bool, NoMemory>
+        ensures len { OnOk result (length seen.new.items ≡ length self.now.state.groups.groups) }
+        ensures known { IfOk result (λ known. known ≡ true → seen.new.items ≡ seen.old.items) }
     {
+        let groups = self.group_count();
+        if seen.len() == groups {
+            return Ok(true);
+        }
         let none = Halts {
             reads: false,
             writes: false,
         };
-        seen.resize(self.ctl.given.groups.len(), none)?;
-        Ok(())
+        seen.resize(groups, none)?;
+        Ok(false)
+    }
+
+    /// Notes of a group in which directions it is suspended, and answers whether that was noted already.
+    fn note_group(&self, group: u32, seen: &mut Vec<Halts>) -> bool
+        requires there { group < length self.now.state.groups.groups }
+        requires place { group < length seen.old.items }
+        ensures noted { option_map (λ halts. slice_set seen.old.items group halts) (option_map halts_of (slice_get self.now.state.groups.groups group))
+            ≡ Some seen.new.items }
+        ensures same { result ≡ true → seen.new.items ≡ seen.old.items }
+    {
+        let Some(halts) = self.halts(group) else {
+            return false;
+        };
+        let same = is_same(&seen[group as usize], &halts);
+        seen[group as usize] = halts;
+        same
     }
 
     /// Notes of each group in which directions it is suspended, and answers whether that was noted already. By such a note one knows of each
@@ -71,12 +110,8 @@ impl Relay {
             ≡ is_free seen.new.items d (group_of (number e) self.now.state.groups.members) }
     {
         let mut same = true;
-        for at in 0..seen.len() {
-            if let Some(halts) = self.halts(at as u32) {
-                let was = seen[at];
-                same &= was.reads == halts.reads && was.writes == halts.writes;
-                seen[at] = halts;
-            }
+        for at in 0..self.group_count() {
+            same &= self.note_group(at as u32, seen);
         }
         same
     }
