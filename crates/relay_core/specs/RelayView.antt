@@ -86,8 +86,8 @@ pub record AreSound (g : Settings) (time : ℕ) (untimed : Bool) (k : Links) : T
   pub sides : All (IsSoundSide time untimed) k.sides
   pub gauges : All (λ (x : Gauge). x.time ≤ time) k.gauges
 
--- What is so of the groups: there are as many as were given, which have numbers of 32 bits, and the sides of a new link join one that there is. Where none was given,
--- nobody is in one; and so it is where nothing is timed. No member has a share of nothing.
+-- What is so of the groups: there are as many as were given, which have numbers of 32 bits, and the sides of a new link join one that there
+-- is. Where none was given, nobody is in one; and so it is where nothing is timed. No member has a share of nothing.
 pub record HasGroups (given : RateGroups) (still : Bool) (x : GroupsValue) : Type 0 where
   pub many : length x.groups ≡ length given.groups.items
   pub few : length given.groups.items ≤ 2 ^ 32

@@ -62,8 +62,8 @@ impl Relay {
         })
     }
 
-    /// Gives a note a place for each group, and answers whether it had one already, and changed nothing then. Takes memory where it had fewer,
-    /// which is before the first turn alone; linear in what is added.
+    /// Gives a note a place for each group, and answers whether it had one already, and changed nothing then. Takes memory only if it
+    /// had fewer, which is so before the first turn; linear in what is added.
     ///
     /// Own.
     pub fn lengthen_halts(&self, seen: &mut Vec<Halts>) -> Result<bool, NoMemory>
@@ -86,8 +86,8 @@ impl Relay {
     fn note_group(&self, group: u32, seen: &mut Vec<Halts>) -> bool
         requires there { group < length self.now.state.groups.groups }
         requires place { group < length seen.old.items }
-        ensures noted { option_map (λ halts. slice_set seen.old.items group halts) (option_map halts_of (slice_get self.now.state.groups.groups group))
-            ≡ Some seen.new.items }
+        ensures noted { option_map (λ halts. slice_set seen.old.items group halts)
+            (option_map halts_of (slice_get self.now.state.groups.groups group)) ≡ Some seen.new.items }
         ensures same { result ≡ true → seen.new.items ≡ seen.old.items }
     {
         let Some(halts) = self.halts(group) else {
@@ -98,8 +98,8 @@ impl Relay {
         same
     }
 
-    /// Notes of each group in which directions it is suspended, and answers whether that was noted already. By such a note one knows of each
-    /// side whether its group leaves it something. Takes no memory; linear in the number of groups.
+    /// Notes of each group in which directions it is suspended, and answers whether that was noted already. By such a note one knows of
+    /// each side whether its group leaves it something. Takes no memory; linear in the number of groups.
     ///
     /// Own.
     pub fn note_halts(&self, seen: &mut Vec<Halts>) -> bool

@@ -59,7 +59,10 @@ gone-same k s new same h = open-same same ∙ h
 pub named-same : (t : Naming) (k : ℕ) (s new : State) → SameLink k s new → IsNamedRight t s k → IsNamedRight t new k
 named-same t k s new same h = (
   h.0,
-  (h.1.0 ∙ sym (wants-same same t.seen.items (in_side k) refl dir.Read), h.1.1 ∙ sym (wants-same same t.seen.items (in_side k) refl dir.Write)),
+  (
+    h.1.0 ∙ sym (wants-same same t.seen.items (in_side k) refl dir.Read),
+    h.1.1 ∙ sym (wants-same same t.seen.items (in_side k) refl dir.Write),
+  ),
   (
     h.2.0 ∙ sym (wants-same same t.seen.items (out_side k) refl dir.Read),
     h.2.1 ∙ sym (wants-same same t.seen.items (out_side k) refl dir.Write),

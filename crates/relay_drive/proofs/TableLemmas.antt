@@ -1,5 +1,5 @@
 -- A table that says of each side what it wants names exactly the wanted sides.
-use Rattle.std.proofs.Common.{◌≡◌, ◌≢◌, ℕ, zero, suc, ◌+◌, ◌*◌, ◌<◌, ◌≤◌, ◌==◌, Bool, if◌then◌else◌, false, [], ◌∷◌, ◌++◌, filter, refl}
+use Rattle.std.proofs.Common.{◌≡◌, ◌≢◌, ℕ, zero, suc, ◌+◌, ◌*◌, ◌<◌, ◌≤◌, ◌==◌, if◌then◌else◌, false, [], ◌∷◌, ◌++◌, filter, refl}
 use Rattle.std.proofs.Common.{sym, ◌∙◌, ap}
 use Rattle.std.proofs.Common.{subst, arith}
 use Rattle.token_bucket.specs.declared.limit.Dir.TheVariants as dir
@@ -55,8 +55,8 @@ named-wanted t s e h = ap (λ n. named_before t (2 * n)) e ∙ links-named t s s
 others-say : (t new : WantsValue) (s : State) (k : ℕ) (e : SideId) → NamedLink s k t new → e.link ≢ k → SaysOf t s e → SaysOf new s e
 others-say t new s k e n other h = let o = n.others e other in (o.0 ∙ h.0, o.1 ∙ h.1)
 
-others-would : (t : Naming) (new : WantsValue) (s : State) (k : ℕ) (e : SideId) → NamedLink s k t.table new → e.link ≢ k → WouldSayOf t s e →
-    WouldSayOf (record t { table = new }) s e
+others-would : (t : Naming) (new : WantsValue) (s : State) (k : ℕ) (e : SideId) → NamedLink s k t.table new → e.link ≢ k →
+    WouldSayOf t s e → WouldSayOf (record t { table = new }) s e
 others-would t new s k e n other h = let o = n.others e other in (o.0 ∙ h.0, o.1 ∙ h.1)
 
 -- what is said of a link is what its sides want, if groups are suspended as was noted

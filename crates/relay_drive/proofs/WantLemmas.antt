@@ -120,8 +120,9 @@ named-later t ms k s h right = (right.0, says (in_side k) refl right.1, says (ou
 
 -- It is right by another note too that says the same of the groups of its sides.
 pub named-noted : (t t' : Naming) (k : ℕ) (s : State) → t'.table ≡ t.table →
-    ((e : SideId) → e.link ≡ k → (d : Dir) → is_free t'.seen.items d (side_at s.plain e).group ≡ is_free t.seen.items d (side_at s.plain e).group)
-    → IsNamedRight t s k → IsNamedRight t' s k
+    ((e : SideId) → e.link ≡ k → (d : Dir) →
+    is_free t'.seen.items d (side_at s.plain e).group ≡ is_free t.seen.items d (side_at s.plain e).group) →
+    IsNamedRight t s k → IsNamedRight t' s k
 named-noted t t' k s same alike right = (
   subst (λ (z : WantsValue). k < z.links) (sym same) right.0,
   says (in_side k) refl right.1,

@@ -10,8 +10,8 @@ use std::alloc::Global;
 
 /// The links at which passing and closing may have something to do, those that may have a live side, and those of which the table of wants
 /// may not be right. A link that isn't in a set was looked at, and nothing changed there since, but for what groups leave its sides to
-/// move. The links whose limits may leave more than before are in all sets as a turn begins; those with members are among those of which the
-/// table may not be right once a group was suspended or goes on.
+/// move. The links whose limits may leave more than before are in all sets as a turn begins; those with members are among those of which
+/// the table may not be right once a group was suspended or goes on.
 #[derive(Drop)]
 pub(crate) struct Agenda {
     pub(crate) to_pass: NumberSet,

@@ -86,7 +86,7 @@ fn clock<P: Port, S: Scribe>(
     let opened = run.relay.opened();
     agenda.touch_each(run.relay.watched(), opened);
     let same = run.relay.note_halts(&mut naming.seen);
-    agenda.name_each_where(!known || !same, run.relay.grouped(), opened);
+    agenda.name_each_where(!(known & same), run.relay.grouped(), opened);
     run.relay.forget_timeless();
     Ok(())
 }

@@ -1,4 +1,4 @@
-use Rattle.std.proofs.Common.{◌≡◌, ℕ, ◌<◌, refl, ◌∙◌, arith}
+use Rattle.std.proofs.Common.{◌<◌, refl, ◌∙◌, arith}
 use Rattle.relay_state.specs.Closing.{in_side, out_side}
 use Rattle.relay_drive.specs.Agenda.{SaysOf}
 use Rattle.relay_drive.proofs.AgendaLemmas.{up-all}

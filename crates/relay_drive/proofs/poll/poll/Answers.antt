@@ -26,7 +26,8 @@ returns-then-not-ready-clause-kept g c =
 
 pub returns-then-not-ready-clause-named : goal.returns-then-not-ready-clause-named
 returns-then-not-ready-clause-named g c =
-    subst (λ (r : RelayValue). IsNamed c.name_wants.new.agenda (record c.name_wants.new.naming { table = c.ask_poll.new.wants }) r.state) (sym c.in_ok-ready.ensures.kept)
+    subst (λ (r : RelayValue). IsNamed c.name_wants.new.agenda (record c.name_wants.new.naming { table = c.ask_poll.new.wants }) r.state)
+    (sym c.in_ok-ready.ensures.kept)
     (named-rows c.name_wants.new.agenda c.name_wants.new.naming c.ask_poll.new.wants c.args.run.now.relay.state c.in_ok-ready.ensures.rows
     c.in_ok-name_wants.ensures.right)
 
@@ -51,6 +52,7 @@ returns-clause-went g c =
 pub returns-clause-named : goal.returns-clause-named
 returns-clause-named g c =
     c.in_ok-accept.ensures.names (record c.name_wants.new.naming { table = c.ask_poll.new.wants })
-    (subst (λ (r : RelayValue). IsNamed c.name_wants.new.agenda (record c.name_wants.new.naming { table = c.ask_poll.new.wants }) r.state) (sym c.in_ok-ready.ensures.kept)
+    (subst (λ (r : RelayValue). IsNamed c.name_wants.new.agenda (record c.name_wants.new.naming { table = c.ask_poll.new.wants }) r.state)
+    (sym c.in_ok-ready.ensures.kept)
     (named-rows c.name_wants.new.agenda c.name_wants.new.naming c.ask_poll.new.wants c.args.run.now.relay.state c.in_ok-ready.ensures.rows
     c.in_ok-name_wants.ensures.right))

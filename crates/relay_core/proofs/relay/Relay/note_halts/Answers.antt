@@ -20,7 +20,8 @@ loop-at-preserved c =
     let lt = c.loop-at-test.true in
     let place : c.loop-at.at < length c.loop-at.seen.items =
     (let count = c.group_count-at-end.ensures.count in let len = inv.len in omega (arith, lt, count, len)) in
-    let next = noted-next c.loop-at.seen.items c.note_group-same.new.seen.items gs c.loop-at.at place c.note_group-same.ensures.noted inv.noted in
+    let next = noted-next c.loop-at.seen.items c.note_group-same.new.seen.items gs c.loop-at.at place c.note_group-same.ensures.noted
+    inv.noted in
     record {
       len = next.0 ∙ inv.len;
       noted = next.1;
@@ -31,7 +32,8 @@ pub returns-clause-noted : goal.returns-clause-noted
 returns-clause-noted c =
     let inv = c.loop-at.invariant in
     let gs = c.args.self.now.state.groups.groups in
-    let done : length gs ≤ c.loop-at.at = (let end = c.loop-at-test.false in let count = c.group_count-at-end.ensures.count in omega (arith, end, count)) in
+    let done : length gs ≤ c.loop-at.at =
+    (let end = c.loop-at-test.false in let count = c.group_count-at-end.ensures.count in omega (arith, end, count)) in
     noted-all c.loop-at.seen.items gs inv.len (λ k lt. inv.noted k (omega (arith, lt, done)))
 
 pub returns-clause-shares : goal.returns-clause-shares

@@ -1,4 +1,4 @@
-use Rattle.std.proofs.Common.{true, false, refl, sym, ◌∙◌, arith}
+use Rattle.std.proofs.Common.{refl, ◌∙◌, arith}
 use Rattle.relay_drive.proofs.AgendaLemmas.{touched-none, touched-next, touched-all}
 use Rattle.relay_drive.proofs.agenda.Agenda.name_each_where.Goals as goal
 
