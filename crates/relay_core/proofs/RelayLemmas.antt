@@ -220,6 +220,7 @@ groups_sound : (g : RateGroups) (u : Bool) (x y : GroupsValue) → HasGroups g u
     (x ≡ no_groups → y ≡ no_groups) → All (λ (z : GroupValue). 1 ≤ z.least) y.groups → HasGroups g u y
 groups_sound g u x y h many none shares = record {
   many = many ∙ h.many;
+  few = h.few;
   in_group = h.in_group;
   out_group = h.out_group;
   none = λ e. none (h.none e);
@@ -271,6 +272,7 @@ pub opened_groups_sound : (g : RateGroups) (u : Bool) (x y z : GroupsValue) (a b
 opened_groups_sound g u x y z a b h first second = record {
   many = ap (λ (w : GroupsValue). length w.groups) second ∙ joined-many g.out_group b y
       ∙ ap (λ (w : GroupsValue). length w.groups) first ∙ joined-many g.in_group a x ∙ h.many;
+  few = h.few;
   in_group = h.in_group;
   out_group = h.out_group;
   none = λ e.
@@ -294,6 +296,7 @@ pub asked_groups_sound : (g : RateGroups) (u : Bool) (x y : GroupsValue) (n memb
     y ≡ joined n member x → HasGroups g u y
 asked_groups_sound g u x y n member h below is = record {
   many = ap (λ (w : GroupsValue). length w.groups) is ∙ h.many;
+  few = h.few;
   in_group = h.in_group;
   out_group = h.out_group;
   none = λ e. absurd (let none = ap length e in omega (arith, below, none));
@@ -404,6 +407,7 @@ lowered g time u less k down h = record {
 pub lowered_groups : (x : RateGroups) (u less : Bool) (y : GroupsValue) → (less ≡ true → u ≡ true) → HasGroups x u y → HasGroups x less y
 lowered_groups x u less y down h = record {
   many = h.many;
+  few = h.few;
   in_group = h.in_group;
   out_group = h.out_group;
   none = h.none;

@@ -12,7 +12,7 @@ use Rattle.resting_links.specs.RestingValue.{side_moment, IsFirstMoment}
 use Rattle.relay_sides.specs.Links as links
 use Rattle.relay_core.specs.RelayView.{state_with, relay_of, IsSound}
 use Rattle.relay_core.specs.RelayValue.{RelayValue}
-use Rattle.relay_core.specs.Timeless.{side_gains, is_halted, IsResting, IsStillSide}
+use Rattle.relay_core.specs.Timeless.{side_gains, IsResting, IsStillSide}
 use Rattle.relay_core.specs.Waits.{earlier, gain_of, gains}
 use Rattle.relay_core.specs.declared.ctl.Ctl.TheInside.{Inside}
 use Rattle.relay_core.proofs.GainLemmas.{gain-side}
@@ -70,17 +70,15 @@ module _ (r : Inside) (h : IsSound r) where
         subst (λ (z : RelayValue). earlier first (earliest (gains z.state (all_sides z.state.plain)))
         ≡ earliest (gains z.state (all_sides z.state.plain))) is (first_in first told)
 
-  -- a side may rest that has no timeout and has not expired, whose group is not halted, until this moment
+  -- a side may rest that has no timeout and has not expired, until this moment
   pub resting_by : (e : SideId) (m : Option ℕ) (v : RelayValue) → relay_of r ≡ v → IsStillSide v.state e →
-      is_halted (number e) v.state.groups ≡ false →
       option_to_list m ≡ side_gains v.state.plain.time (side_at v.state.plain e) (gauge_at v.state e) →
-      IsResting m r.time (links.side_at r.sides.links e) (links.gauge_at r.sides.links e) (is_halted (number e) r.groups.value)
-  resting_by e m v is still unhalted gain =
+      IsResting m r.time (links.side_at r.sides.links e) (links.gauge_at r.sides.links e)
+  resting_by e m v is still gain =
       let p = subst (λ (z : RelayValue). IsStillSide z.state e) (sym is) still in
       record {
         reads = p.reads;
         writes = p.writes;
         unexpired = p.unexpired;
         gains = gain ∙ ap (λ (z : RelayValue). side_gains z.state.plain.time (side_at z.state.plain e) (gauge_at z.state e)) (sym is);
-        unhalted = ap (λ (z : RelayValue). is_halted (number e) z.state.groups) is ∙ unhalted;
       }

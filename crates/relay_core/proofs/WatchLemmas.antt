@@ -1,6 +1,6 @@
 -- Which links are watched stays right: a link is watched where a side of it may begin to wait for a moment, and the other sides are as
 -- they were.
-use Rattle.std.specs.Prelude.{slice_index_or, slice_set, if◌then◌else◌, is_some, not}
+use Rattle.std.specs.Prelude.{slice_index_or, slice_set, if◌then◌else◌, is_some}
 use Rattle.std.proofs.Common.{◌≡◌, ◌≢◌, ℕ, zero, suc, ◌+◌, ◌*◌, ◌<◌, ◌≤◌, ◌==◌, Bool, true, false, ◌&&◌, nat_le, nat_eq}
 use Rattle.std.proofs.Common.{List, [], ◌∷◌, ◌++◌, length, Option, Some, None, Result, Ok, Err, MatchResult, inl, inr, refl, sym, ◌∙◌, ap}
 use Rattle.std.proofs.Common.{subst, arith}
@@ -16,7 +16,7 @@ use Rattle.ev_types.specs.Sides.{number, peer, other, half}
 use Rattle.next_moments.specs.Earliest.{moment_for, NoneIsDue}
 use Rattle.number_set.specs.Numbers.{NumberSetValue}
 use Rattle.rate_group.specs.GroupValue.{GroupsValue}
-use Rattle.rate_group.specs.Steps.{group_of, joined, spent, all_refilled, share_in}
+use Rattle.rate_group.specs.Steps.{group_of, joined}
 use Rattle.relay_model.specs.Plain.{PlainSide, Standing, no_side}
 use Rattle.relay_model.specs.Asks.{enabled}
 use Rattle.relay_model.specs.Moments.{active_at}
@@ -34,10 +34,9 @@ use Rattle.relay_core.specs.declared.ctl.Ctl.TheInside.{Inside}
 use Rattle.relay_core.proofs.RelayLemmas.{still_sound}
 use Rattle.relay_sides.specs.KeptLimits.{limit_gains}
 use Rattle.resting_links.specs.RestingValue.{RestingValue, side_moment, HasPlaces, Wakes, Rests, Lengthens}
-use Rattle.relay_core.specs.Timeless.{leaves_some, left_by, is_halted, IsResting, IsWatching, IsGrouping}
+use Rattle.relay_core.specs.Timeless.{left_by, IsResting, IsWatching, IsGrouping}
 use Rattle.relay_core.proofs.GainLemmas.{IsAhead, gains-later}
-use Rattle.relay_core.proofs.HaltLemmas.{left-keeps, joined-keeps, joined_where-keeps, halted-joined, halted-none, halted-refilled}
-use Rattle.relay_core.proofs.HaltLemmas.{halted-spent}
+use Rattle.relay_core.proofs.HaltLemmas.{left-keeps, joined-keeps, joined_where-keeps}
 
 -- Sides
 
@@ -52,14 +51,12 @@ pub alike : (x : PlainSide) → IsAlike x x
 alike x = record { live = refl; timeouts = refl; expired = refl; limit = refl }
 
 -- then it waits for the same moment
-resting-alike : (m : Option ℕ) (time : ℕ) (x y : PlainSide) (g : Gauge) (o : Bool) → IsAlike x y → IsResting m time x g o →
-    IsResting m time y g o
-resting-alike m time x y g o a h = record {
+resting-alike : (m : Option ℕ) (time : ℕ) (x y : PlainSide) (g : Gauge) → IsAlike x y → IsResting m time x g → IsResting m time y g
+resting-alike m time x y g a h = record {
   reads = (λ i. a.live i && nat_le 1 (a.timeouts i).read_ms) ∙ h.reads;
   writes = (λ i. a.live i && nat_le 1 (a.timeouts i).write_ms) ∙ h.writes;
   unexpired = (λ i. a.live i && a.expired i) ∙ h.unexpired;
   gains = h.gains ∙ sym (λ i. if a.live i then limit_gains time g (a.limit i) else []);
-  unhalted = h.unhalted;
 }
 
 pub alike-enabled : (d : Dir) (on : Bool) (x : PlainSide) → IsAlike x (enabled d on x)
@@ -86,20 +83,16 @@ numbers-differ e z other same = omega (arith, same, other, half-below e.side, ha
 -- Time
 
 -- the same of the same
-resting-parts : (m : Option ℕ) (time : ℕ) {x y : PlainSide} {g h : Gauge} {o u : Bool} → x ≡ y → g ≡ h → o ≡ u → IsResting m time x g o →
-    IsResting m time y h u
-resting-parts m time {y = y} {g = g} {h = h} {o = o} a b c p =
-    subst (λ z. IsResting m time y h z) c (subst (λ z. IsResting m time y z o) b (subst (λ z. IsResting m time z g o) a p))
+resting-parts : (m : Option ℕ) (time : ℕ) {x y : PlainSide} {g h : Gauge} → x ≡ y → g ≡ h → IsResting m time x g → IsResting m time y h
+resting-parts m time {y = y} {g = g} a b p = subst (λ z. IsResting m time y z) b (subst (λ z. IsResting m time z g) a p)
 
 -- and it waits for that as long as it has not come
-resting-later : (m : Option ℕ) (a b : ℕ) (x : PlainSide) (g : Gauge) (o : Bool) → a ≤ b → IsAhead m b → IsResting m a x g o →
-    IsResting m b x g o
-resting-later m a b x g o le ahead h = record {
+resting-later : (m : Option ℕ) (a b : ℕ) (x : PlainSide) (g : Gauge) → a ≤ b → IsAhead m b → IsResting m a x g → IsResting m b x g
+resting-later m a b x g le ahead h = record {
   reads = h.reads;
   writes = h.writes;
   unexpired = h.unexpired;
   gains = gains-later m a b x g le ahead h.gains;
-  unhalted = h.unhalted;
 }
 
 -- Whether the watched links are right
@@ -116,67 +109,66 @@ wakes-then a b = record {
   none = λ i is. b.none i (a.none i is);
 }
 
-module _ (w : RestingValue) (time : ℕ) (k : Links) (x : GroupsValue) (h : IsWatching w time k x) where
-  -- Sides, or buckets, or groups changed at one side alone, which stays as it is, or whose link is watched.
-  watching-at : (v : RestingValue) (j : Links) (new : GroupsValue) → Wakes w v → j.opened ≡ k.opened →
+module _ (w : RestingValue) (time : ℕ) (k : Links) (h : IsWatching w time k) where
+  -- Sides or buckets changed at one side alone, which stays as it is, or whose link is watched.
+  watching-at : (v : RestingValue) (j : Links) → Wakes w v → j.opened ≡ k.opened →
       ((e : SideId) → e.link < k.opened → v.watched.has e.link ≡ false → (m : Option ℕ) →
-      IsResting m time (links.side_at k e) (links.gauge_at k e) (is_halted (number e) x) →
-      IsResting m time (links.side_at j e) (links.gauge_at j e) (is_halted (number e) new)) → IsWatching v time j new
-  watching-at v j new more opened each = record {
+      IsResting m time (links.side_at k e) (links.gauge_at k e) →
+      IsResting m time (links.side_at j e) (links.gauge_at j e)) → IsWatching v time j
+  watching-at v j more opened each = record {
     covers = let covers = h.covers in let len = more.len in omega (arith, len, opened, covers);
     places = let places = h.places in let len = more.places in omega (arith, len, opened, places);
     absent = λ i past. more.none i (h.absent i (omega (arith, opened, past)));
     beside = λ e below out.
         let under = subst (λ n. e.link < n) opened below in
-        subst (λ m. IsResting m time (links.side_at j e) (links.gauge_at j e) (is_halted (number e) new)) (sym (more.kept e out))
+        subst (λ m. IsResting m time (links.side_at j e) (links.gauge_at j e)) (sym (more.kept e out))
         (each e under out (side_moment w e) (h.beside e under (more.grew e.link out)));
   }
 
   -- more links are watched
-  pub watching-woken : (v : RestingValue) → Wakes w v → IsWatching v time k x
-  watching-woken v more = watching-at v k x more refl (λ e under out m p. p)
+  pub watching-woken : (v : RestingValue) → Wakes w v → IsWatching v time k
+  watching-woken v more = watching-at v k more refl (λ e under out m p. p)
 
   -- a side changed, and not in what decides
   pub watching-alike : (j : Links) (e : SideId) (y : PlainSide) → j.sides ≡ slice_set k.sides (number e) y →
-      IsAlike (links.side_at k e) y → j.gauges ≡ k.gauges → j.opened ≡ k.opened → IsWatching w time j x
+      IsAlike (links.side_at k e) y → j.gauges ≡ k.gauges → j.opened ≡ k.opened → IsWatching w time j
   watching-alike j e y sides like gauges opened =
-      watching-at w j x (wakes-none w) opened (λ z under out m p.
-      let P : PlainSide → Type 0 = λ u. IsResting m time u (links.gauge_at k z) (is_halted (number z) x) in
+      watching-at w j (wakes-none w) opened (λ z under out m p.
+      let P : PlainSide → Type 0 = λ u. IsResting m time u (links.gauge_at k z) in
       let moved : P (links.side_at j z) = subst (λ xs. P (slice_index_or xs (number z) no_side)) (sym sides)
       (set-keeps P k.sides (number e) (number z) y
-      (λ same q. resting-alike m time (links.side_at k e) y (links.gauge_at k z) (is_halted (number z) x) like q) p) in
-      subst (λ xs. IsResting m time (links.side_at j z) (slice_index_or xs (number z) no_gauge) (is_halted (number z) x))
+      (λ same q. resting-alike m time (links.side_at k e) y (links.gauge_at k z) like q) p) in
+      subst (λ xs. IsResting m time (links.side_at j z) (slice_index_or xs (number z) no_gauge))
       (sym gauges) moved)
 
   -- with one side changed so by a function
   pub watching-changed : (j : Links) (e : SideId) (f : PlainSide → PlainSide) → j ≡ change_side e f k →
-      ((x : PlainSide) → IsAlike x (f x)) → IsWatching w time j x
+      ((x : PlainSide) → IsAlike x (f x)) → IsWatching w time j
   watching-changed j e f is like =
       watching-alike j e (f (links.side_at k e)) (ap (λ (z : Links). z.sides) is) (like (links.side_at k e))
       (ap (λ (z : Links). z.gauges) is) (ap (λ (z : Links). z.opened) is)
 
   -- A link became watched: whatever became of one side of it
-  pub watching-more : (v : RestingValue) (j : Links) (new : GroupsValue) (e : SideId) (y : PlainSide) (g : Gauge) →
+  pub watching-more : (v : RestingValue) (j : Links) (e : SideId) (y : PlainSide) (g : Gauge) →
       Wakes w v → v.watched.has e.link ≡ true →
-      j.sides ≡ slice_set k.sides (number e) y → j.gauges ≡ slice_set k.gauges (number e) g → j.opened ≡ k.opened →
-      ((z : SideId) → z.link ≢ e.link → is_halted (number z) x ≡ false → is_halted (number z) new ≡ false) → IsWatching v time j new
-  watching-more v j new e y g more there sides gauges opened groups =
-      watching-at v j new more opened (λ z under out m p.
+      j.sides ≡ slice_set k.sides (number e) y → j.gauges ≡ slice_set k.gauges (number e) g → j.opened ≡ k.opened → IsWatching v time j
+  watching-more v j e y g more there sides gauges opened =
+      watching-at v j more opened (λ z under out m p.
       let other : z.link ≢ e.link = (λ same. absurd (let t : true ≡ false = sym there ∙ ap v.watched.has (sym same) ∙ out in cc)) in
       let differ = numbers-differ e z other in
       let side : links.side_at j z ≡ links.side_at k z = ap (λ xs. slice_index_or xs (number z) no_side) sides
       ∙ get_or-set_other k.sides (number e) (number z) y no_side differ in
       let gauge : links.gauge_at j z ≡ links.gauge_at k z = ap (λ xs. slice_index_or xs (number z) no_gauge) gauges
       ∙ get_or-set_other k.gauges (number e) (number z) g no_gauge differ in
-      resting-parts m time (sym side) (sym gauge) (p.unhalted ∙ sym (groups z other p.unhalted)) p)
+      resting-parts m time (sym side) (sym gauge) p)
 
   -- Bytes were moved at a side, whose link is watched if the side has a limit.
   pub watching-spent : (v : RestingValue) (j : Links) (e : SideId) (d : Dir) (n : ℕ) (limited : Bool) →
       Wakes w v → (limited ≡ true → v.watched.has e.link ≡ true) →
       limited ≡ is_some (links.allowance_at time k e d) →
-      j ≡ links.bucket_spent time e d n k → IsWatching v time j x
+      j ≡ links.bucket_spent time e d n k → IsWatching v time j
   watching-spent v j e d n limited more there told is =
-      watching-at v j x more (ap (λ (z : Links). z.opened) is) (λ z under out m p.
+      watching-at v j more (ap (λ (z : Links). z.opened) is) (λ z under out m p.
       let gauges : j.gauges ≡ slice_set k.gauges (number e) (gauge_after (links.side_at k e).limit time d n (links.gauge_at k e)) =
       ap (λ (l : Links). l.gauges) is in
       let side : links.side_at j z ≡ links.side_at k z = ap (λ (l : Links). slice_index_or l.sides (number z) no_side) is in
@@ -188,11 +180,11 @@ module _ (w : RestingValue) (time : ℕ) (k : Links) (x : GroupsValue) (h : IsWa
             unlimited (links.side_at k e).limit (links.gauge_at k e) d n free in
             let gauge : links.gauge_at j z ≡ links.gauge_at k z = ap (λ xs. slice_index_or xs (number z) no_gauge)
             (gauges ∙ ap (slice_set k.gauges (number e)) same ∙ set-get_or k.gauges (number e) no_gauge) in
-            resting-parts m time (sym side) (sym gauge) refl p
+            resting-parts m time (sym side) (sym gauge) p
         | inr other ↦
             let gauge : links.gauge_at j z ≡ links.gauge_at k z = ap (λ xs. slice_index_or xs (number z) no_gauge) gauges
             ∙ get_or-set_other k.gauges (number e) (number z) _ no_gauge (numbers-differ e z other.1) in
-            resting-parts m time (sym side) (sym gauge) refl p
+            resting-parts m time (sym side) (sym gauge) p
       ])
     where
       unlimited : (l : Option Standing) (x : Gauge) (d : Dir) (n : ℕ) → is_some (left_by l x d time) ≡ false →
@@ -205,18 +197,18 @@ module _ (w : RestingValue) (time : ℕ) (k : Links) (x : GroupsValue) (h : IsWa
       not_limited true there out = absurd (let wrong : true ≡ false = sym (there refl) ∙ out in cc)
 
   -- it is later, and no moment has come
-  pub watching-later : (to : ℕ) → time ≤ to → NoneIsDue w.moments to → IsWatching w to k x
+  pub watching-later : (to : ℕ) → time ≤ to → NoneIsDue w.moments to → IsWatching w to k
   watching-later to le none_due = record {
     covers = h.covers;
     places = h.places;
     absent = h.absent;
     beside = λ e below out.
-        resting-later (side_moment w e) time to (links.side_at k e) (links.gauge_at k e) (is_halted (number e) x) le (none_due (number e))
+        resting-later (side_moment w e) time to (links.side_at k e) (links.gauge_at k e) le (none_due (number e))
         (h.beside e below out);
   }
 
   -- a direction was passed
-  pub watching-passage : (j : Links) (e : SideId) (q : Passage) → j ≡ links.with_passage e q k → IsWatching w time j x
+  pub watching-passage : (j : Links) (e : SideId) (q : Passage) → j ≡ links.with_passage e q k → IsWatching w time j
   watching-passage j e q is = watching-two j (ap (λ (z : Links). z.sides) is) (ap (λ (z : Links). z.gauges) is)
       (ap (λ (z : Links). z.opened) is)
     where
@@ -224,43 +216,42 @@ module _ (w : RestingValue) (time : ℕ) (k : Links) (x : GroupsValue) (h : IsWa
       mid = change_side e (with_bad q.from_bad) k
 
       watching-two : (j : Links) → j.sides ≡ (change_side (peer e) (with_bad q.to_bad) mid).sides → j.gauges ≡ k.gauges →
-          j.opened ≡ k.opened → IsWatching w time j x
+          j.opened ≡ k.opened → IsWatching w time j
       watching-two j sides gauges opened =
-          watching-at w j x (wakes-none w) opened (λ z below out m p.
+          watching-at w j (wakes-none w) opened (λ z below out m p.
           let g : Gauge = links.gauge_at k z in
-          let o : Bool = is_halted (number z) x in
-          let P : PlainSide → Type 0 = λ y. IsResting m time y g o in
-          let bad = λ (y : PlainSide) (b : Option ℕ) (p : P y). resting-alike m time y (with_bad b y) g o
+          let P : PlainSide → Type 0 = λ y. IsResting m time y g in
+          let bad = λ (y : PlainSide) (b : Option ℕ) (p : P y). resting-alike m time y (with_bad b y) g
           (record { live = refl; timeouts = refl; expired = refl; limit = refl }) p in
           let one = set-keeps P k.sides (number e) (number z) (with_bad q.from_bad (links.side_at k e))
           (λ same p. bad (links.side_at k e) q.from_bad p) p in
           let two = set-keeps P mid.sides (number (peer e)) (number z) (with_bad q.to_bad (links.side_at mid (peer e)))
           (λ same p. bad (links.side_at mid (peer e)) q.to_bad p) one in
           resting-parts m time (ap (λ xs. slice_index_or xs (number z) no_side) (sym sides))
-          (ap (λ xs. slice_index_or xs (number z) no_gauge) (sym gauges)) refl two)
+          (ap (λ xs. slice_index_or xs (number z) no_gauge) (sym gauges)) two)
 
   pub watching-passed : (hold : ℕ) (j : Links) (e : SideId) (T E : Type 0) (result : Result T E) →
-      MatchResult result (λ _. links.PassedFrom hold k e j) (λ _. links.PartlyPassed hold k e j) → IsWatching w time j x
+      MatchResult result (λ _. links.PassedFrom hold k e j) (λ _. links.PartlyPassed hold k e j) → IsWatching w time j
   watching-passed hold j e T E (Ok a) p = watching-passage j e p.0 p.2
   watching-passed hold j e T E (Err a) p = watching-passage j e p.0 p.2
 
   -- there are more places
-  pub watching-wider : (v : RestingValue) → Lengthens w v → IsWatching v time k x
+  pub watching-wider : (v : RestingValue) → Lengthens w v → IsWatching v time k
   watching-wider v more = record {
     covers = let covers = h.covers in let len = more.len in omega (arith, covers, len);
     places = let places = h.places in let len = more.places in omega (arith, places, len);
     absent = λ i past. more.moments i ∙ h.absent i past;
     beside = λ e below out.
-        subst (λ m. IsResting m time (links.side_at k e) (links.gauge_at k e) (is_halted (number e) x)) (sym (more.moments (number e)))
+        subst (λ m. IsResting m time (links.side_at k e) (links.gauge_at k e)) (sym (more.moments (number e)))
         (h.beside e below (sym (more.has e.link) ∙ out));
   }
 
   -- a link is watched no more whose sides wait for the moments that they get
   pub watching-fewer : (v : RestingValue) (near : SideId) (a b : Option ℕ) → near.side ≡ In → near.link < k.opened →
       Rests near.link a b w v →
-      IsResting a time (links.side_at k near) (links.gauge_at k near) (is_halted (number near) x) →
-      IsResting b time (links.side_at k (peer near)) (links.gauge_at k (peer near)) (is_halted (number (peer near)) x) →
-      IsWatching v time k x
+      IsResting a time (links.side_at k near) (links.gauge_at k near) →
+      IsResting b time (links.side_at k (peer near)) (links.gauge_at k (peer near)) →
+      IsWatching v time k
   watching-fewer v near a b is below rest first second = record {
     covers = let covers = h.covers in let len = rest.len in omega (arith, covers, len);
     places = let places = h.places in let len = rest.places in omega (arith, places, len);
@@ -268,7 +259,7 @@ module _ (w : RestingValue) (time : ℕ) (k : Links) (x : GroupsValue) (h : IsWa
     beside = λ e under out. elim (eqb_tells e.link near.link) [
       | inl here ↦ own e here.1 e.side refl
       | inr other ↦
-          subst (λ m. IsResting m time (links.side_at k e) (links.gauge_at k e) (is_halted (number e) x))
+          subst (λ m. IsResting m time (links.side_at k e) (links.gauge_at k e))
           (sym (rest.kept (number e) (away e other.1) (away-far e other.1)))
           (h.beside e under (sym (ap (λ b. if b then false else w.watched.has e.link) other.0) ∙ sym (rest.has e.link) ∙ out))
     ];
@@ -280,75 +271,38 @@ module _ (w : RestingValue) (time : ℕ) (k : Links) (x : GroupsValue) (h : IsWa
       away-far : (e : SideId) → e.link ≢ near.link → number e ≢ 2 * near.link + 1
       away-far e other same = let low = half-below e.side in other (omega (arith, same, low))
 
-      at : (m : Option ℕ) (u v : SideId) → u ≡ v → IsResting m time (links.side_at k u) (links.gauge_at k u) (is_halted (number u) x) →
-          IsResting m time (links.side_at k v) (links.gauge_at k v) (is_halted (number v) x)
-      at m u v e p = subst (λ z. IsResting m time (links.side_at k z) (links.gauge_at k z) (is_halted (number z) x)) e p
+      at : (m : Option ℕ) (u v : SideId) → u ≡ v → IsResting m time (links.side_at k u) (links.gauge_at k u) →
+          IsResting m time (links.side_at k v) (links.gauge_at k v)
+      at m u v e p = subst (λ z. IsResting m time (links.side_at k z) (links.gauge_at k z)) e p
 
       own : (e : SideId) → e.link ≡ near.link → (u : Side) → e.side ≡ u →
-          IsResting (side_moment v e) time (links.side_at k e) (links.gauge_at k e) (is_halted (number e) x)
+          IsResting (side_moment v e) time (links.side_at k e) (links.gauge_at k e)
       own e here In side =
           let same : near ≡ e = (λ i. record { link = sym here i; side = (is ∙ sym side) i }) in
           let place : number e ≡ 2 * near.link = (let p = ap half side in omega (arith, here, p)) in
-          subst (λ m. IsResting m time (links.side_at k e) (links.gauge_at k e) (is_halted (number e) x))
+          subst (λ m. IsResting m time (links.side_at k e) (links.gauge_at k e))
           (sym (ap (moment_for v.moments) place ∙ rest.near)) (at a near e same first)
       own e here Out side =
           let same : peer near ≡ e = (λ i. record { link = sym here i; side = (ap other is ∙ sym side) i }) in
           let place : number e ≡ 2 * near.link + 1 = (let p = ap half side in omega (arith, here, p)) in
-          subst (λ m. IsResting m time (links.side_at k e) (links.gauge_at k e) (is_halted (number e) x))
+          subst (λ m. IsResting m time (links.side_at k e) (links.gauge_at k e))
           (sym (ap (moment_for v.moments) place ∙ rest.far)) (at b (peer near) e same second)
 
 -- bytes were got
-pub watching-got : (w : RestingValue) (time : ℕ) (k j : Links) (x : GroupsValue) (e : SideId) (bytes : List ℕ) →
-    IsWatching w time k x → j ≡ links.after_got time e bytes k → IsWatching w time j x
-watching-got w time k j x e bytes h is =
+pub watching-got : (w : RestingValue) (time : ℕ) (k j : Links) (e : SideId) (bytes : List ℕ) →
+    IsWatching w time k → j ≡ links.after_got time e bytes k → IsWatching w time j
+watching-got w time k j e bytes h is =
     let grown : Links = links.with_got time e bytes k in
-    let mid = watching-alike w time k x h grown e (active_at time dir.Read (links.side_at k e)) refl
+    let mid = watching-alike w time k h grown e (active_at time dir.Read (links.side_at k e)) refl
     (alike-active time dir.Read (links.side_at k e)) refl refl in
-    watching-passage w time grown x mid j e (read_part (links.read_mark grown e) false (links.passage_at grown e)) is
+    watching-passage w time grown mid j e (read_part (links.read_mark grown e) false (links.passage_at grown e)) is
 
 -- bytes were taken
-pub watching-took : (w : RestingValue) (time : ℕ) (k j : Links) (x : GroupsValue) (e : SideId) (n : ℕ) →
-    IsWatching w time k x → j ≡ links.after_took time e n k → IsWatching w time j x
-watching-took w time k j x e n h is =
-    watching-alike w time k x h j e (active_at time dir.Write (links.side_at k e)) (ap (λ (z : Links). z.sides) is)
+pub watching-took : (w : RestingValue) (time : ℕ) (k j : Links) (e : SideId) (n : ℕ) →
+    IsWatching w time k → j ≡ links.after_took time e n k → IsWatching w time j
+watching-took w time k j e n h is =
+    watching-alike w time k h j e (active_at time dir.Write (links.side_at k e)) (ap (λ (z : Links). z.sides) is)
     (alike-active time dir.Write (links.side_at k e)) (ap (λ (z : Links). z.gauges) is) (ap (λ (z : Links). z.opened) is)
-
--- groups were refilled
-pub watching-refilled : (w : RestingValue) (time ms : ℕ) (k : Links) (x y : GroupsValue) → y ≡ all_refilled ms x →
-    IsWatching w time k x → IsWatching w time k y
-watching-refilled w time ms k x y is h =
-    watching-at w time k x h w k y (wakes-none w) refl (λ e below out m p.
-    resting-parts m time refl refl
-    (p.unhalted ∙ sym (halted-refilled ms (number e) x p.unhalted) ∙ ap (is_halted (number e)) (sym is)) p)
-
--- A member moved bytes. Where its share is nothing then, all members are watched.
-pub watching-shared : (w v : RestingValue) (grouped : NumberSetValue) (time : ℕ) (k : Links) (x y : GroupsValue) (mover : ℕ) (d : Dir)
-    (n : ℕ) (free : Bool) →
-    IsWatching w time k x → IsGrouping grouped k.opened x.members → Wakes w v →
-    (not free ≡ true → (m : ℕ) → HasPlaces (m + 1) w → grouped.has m ≡ true → v.watched.has m ≡ true) →
-    y ≡ spent mover d n x → free ≡ leaves_some (share_in mover d y) → IsWatching v time k y
-watching-shared w v grouped time k x y mover d n free h g more all is told =
-    watching-at w time k x h v k y more refl (λ e below out m p.
-    resting-parts m time refl refl (p.unhalted ∙ sym (still e below out p.unhalted free refl)) p)
-  where
-    no_member : (e : SideId) → e.link < k.opened → v.watched.has e.link ≡ false → free ≡ false → (b : Bool) → grouped.has e.link ≡ b →
-        b ≡ false
-    no_member e below out none false is = refl
-    no_member e below out none true is =
-        let places = h.places in
-        let covers = h.covers in
-        let wrong : true ≡ false =
-        sym (all (ap not none) e.link (omega (arith, covers, below), omega (arith, places, below)) is) ∙ out in
-        absurd (cc wrong)
-
-    still : (e : SideId) → e.link < k.opened → v.watched.has e.link ≡ false → is_halted (number e) x ≡ false → (b : Bool) →
-        free ≡ b → is_halted (number e) y ≡ false
-    still e below out was true f =
-        ap (is_halted (number e)) is
-        ∙ halted-spent mover d n (number e) x (ap (λ z. leaves_some (share_in mover d z)) (sym is) ∙ sym told ∙ f) was
-    still e below out was false f =
-        ap (is_halted (number e)) is
-        ∙ halted-none (number e) (spent mover d n x) (g.beside e below (let b = no_member e below out f (grouped.has e.link) refl in b))
 
 -- Members
 
@@ -440,29 +394,20 @@ old-place : {A : Type 0} (n : ℕ) (xs ys : List A) (d : A) (z : SideId) → len
 old-place n xs ys d z many below = get_or_append_left xs ys d (number z) (omega (arith, many, below, half-below z.side))
 
 -- A link was opened, which is watched.
-pub watching-opened : (w v : RestingValue) (time turn : ℕ) (k j : Links) (x y z : GroupsValue) (near far : NewSide) (a b : SideId) →
-    IsWatching w time k x → length k.sides ≡ 2 * k.opened → length k.gauges ≡ 2 * k.opened → HasPlaces (k.opened + 1) w →
-    Wakes w v → v.watched.has k.opened ≡ true →
-    j ≡ with_link time turn near far k → a.link ≡ k.opened → b.link ≡ k.opened →
-    y ≡ joined_where near.group a x → z ≡ joined_where far.group b y → IsWatching v time j z
-watching-opened w v time turn k j x y z near far a b h sides gauges room more there is at_a at_b first second = record {
+pub watching-opened : (w v : RestingValue) (time turn : ℕ) (k j : Links) (near far : NewSide) →
+    IsWatching w time k → length k.sides ≡ 2 * k.opened → length k.gauges ≡ 2 * k.opened → HasPlaces (k.opened + 1) w →
+    Wakes w v → v.watched.has k.opened ≡ true → j ≡ with_link time turn near far k → IsWatching v time j
+watching-opened w v time turn k j near far h sides gauges room more there is = record {
   covers = let len = more.len in let places = room.0 in omega (arith, count, len, places);
   places = let len = more.places in let places = room.1 in omega (arith, count, len, places);
   absent = λ i past. more.none i (h.absent i (omega (arith, count, past)));
   beside = λ e below out.
       let other : e.link ≢ k.opened = (λ same. absurd (let t : true ≡ false = sym there ∙ ap v.watched.has (sym same) ∙ out in cc)) in
       let under : e.link < k.opened = omega (arith, below, count, other) in
-      let p = h.beside e under (more.grew e.link out) in
-      let not_a : number e ≢ number a = numbers-differ a e (λ q. other (q ∙ at_a)) in
-      let not_b : number e ≢ number b = numbers-differ b e (λ q. other (q ∙ at_b)) in
-      let one : is_halted (number e) y ≡ false = ap (is_halted (number e)) first
-      ∙ halted-joined near.group a (number e) x not_a p.unhalted in
-      let two : is_halted (number e) z ≡ false = ap (is_halted (number e)) second
-      ∙ halted-joined far.group b (number e) y not_b one in
       let side = ap (λ (l : Links). links.side_at l e) is ∙ old-place k.opened k.sides _ no_side e sides under in
       let gauge = ap (λ (l : Links). links.gauge_at l e) is ∙ old-place k.opened k.gauges _ no_gauge e gauges under in
-      subst (λ m. IsResting m time (links.side_at j e) (links.gauge_at j e) (is_halted (number e) z)) (sym (more.kept e out))
-      (resting-parts (side_moment w e) time (sym side) (sym gauge) (p.unhalted ∙ sym two) p);
+      subst (λ m. IsResting m time (links.side_at j e) (links.gauge_at j e)) (sym (more.kept e out))
+      (resting-parts (side_moment w e) time (sym side) (sym gauge) (h.beside e under (more.grew e.link out)));
 }
   where
     count : j.opened ≡ k.opened + 1
@@ -495,7 +440,7 @@ changed_sound r s e f h is like = record {
       (like (links.side_at r.sides.links e)) p)
       (ap (λ (z : Links). z.sides) is) (ap (λ (z : Links). z.gauges) is);
   grouped = h.grouped;
-  watching = watching-changed r.resting r.time r.sides.links r.groups.value h.watching s.links e f is (λ x. (like x).alike);
+  watching = watching-changed r.resting r.time r.sides.links h.watching s.links e f is (λ x. (like x).alike);
   grouping = grouping-at r.grouped r.sides.links.opened s.links.opened r.groups.value.members (ap (λ (z : Links). z.opened) is) h.grouping;
   time = h.time;
   few = h.few;

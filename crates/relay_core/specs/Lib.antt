@@ -10,4 +10,5 @@ pub mod Steps
 pub mod Pairs
 pub mod Rateless
 pub mod Timeless
+pub mod Halts
 pub mod Answered

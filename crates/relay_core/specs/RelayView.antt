@@ -86,10 +86,11 @@ pub record AreSound (g : Settings) (time : ℕ) (untimed : Bool) (k : Links) : T
   pub sides : All (IsSoundSide time untimed) k.sides
   pub gauges : All (λ (x : Gauge). x.time ≤ time) k.gauges
 
--- What is so of the groups: there are as many as were given, and the sides of a new link join one that there is. Where none was given,
--- nobody is in one; and so it is where nothing is timed. No member has a share of nothing.
+-- What is so of the groups: there are as many as were given, which have numbers of 32 bits, and the sides of a new link join one that there
+-- is. Where none was given, nobody is in one; and so it is where nothing is timed. No member has a share of nothing.
 pub record HasGroups (given : RateGroups) (still : Bool) (x : GroupsValue) : Type 0 where
   pub many : length x.groups ≡ length given.groups.items
+  pub few : length given.groups.items ≤ 2 ^ 32
   pub in_group : IfSome given.in_group (λ n. n < length given.groups.items)
   pub out_group : IfSome given.out_group (λ n. n < length given.groups.items)
   pub none : given.groups.items ≡ [] → x ≡ no_groups
@@ -100,7 +101,7 @@ pub record HasGroups (given : RateGroups) (still : Bool) (x : GroupsValue) : Typ
 pub record IsSound (r : Inside) : Type 0 where
   pub timed : AreSound r.settings r.time r.untimed r.sides.links
   pub grouped : HasGroups r.given r.untimed r.groups.value
-  pub watching : IsWatching r.resting r.time r.sides.links r.groups.value
+  pub watching : IsWatching r.resting r.time r.sides.links
   pub grouping : IsGrouping r.grouped r.sides.links.opened r.groups.value.members
   pub time : r.time ≤ 2 ^ 62
   pub few : r.asks ≤ 256

@@ -1,7 +1,6 @@
 -- At which sides time changes nothing, or nothing until a moment, and which links are watched for it.
-use Rattle.std.specs.Prelude.{◌≡◌, ℕ, ◌*◌, ◌<◌, ◌≤◌, Bool, true, false, ◌&&◌, ◌||◌, nat_le, if◌then◌else◌, slice_get, List, [], length}
+use Rattle.std.specs.Prelude.{◌≡◌, ℕ, ◌*◌, ◌<◌, ◌≤◌, Bool, true, false, ◌&&◌, nat_le, if◌then◌else◌, List, [], length}
 use Rattle.std.specs.Prelude.{Option, Some, None, option_map, option_to_list}
-use Rattle.std.specs.Option.{option_map_or}
 use Rattle.token_bucket.specs.declared.limit.Dir.{Dir}
 use Rattle.token_bucket.specs.declared.limit.Dir.TheVariants as dir
 use Rattle.ev_types.specs.declared.side.SideId.{SideId}
@@ -9,13 +8,12 @@ use Rattle.ev_types.specs.Sides.{number}
 use Rattle.next_moments.specs.Earliest.{moment_for}
 use Rattle.number_set.specs.Numbers.{NumberSetValue}
 use Rattle.resting_links.specs.RestingValue.{RestingValue, side_moment}
-use Rattle.rate_group.specs.GroupValue.{GroupValue, GroupsValue}
 use Rattle.rate_group.specs.Steps.{group_of}
 use Rattle.relay_model.specs.Plain.{PlainSide, Standing, is_live, side_at}
 use Rattle.relay_model.specs.Moments.{is_timed}
 use Rattle.relay_state.specs.Running.{Gauge, held_at}
 use Rattle.relay_state.specs.State.{State, gauge_at}
-use Rattle.relay_state.specs.Rooms.{allowance, share}
+use Rattle.relay_state.specs.Rooms.{allowance}
 use Rattle.relay_sides.specs.KeptLimits.{limit_gains}
 use Rattle.relay_sides.specs.Links as links
 use Rattle.relay_sides.specs.Links.{Links}
@@ -29,40 +27,23 @@ leaves_some (Some most) = nat_le 1 most
 abbrev pub left_by : Option Standing → Gauge → Dir → ℕ → Option ℕ
 left_by limit x d time = option_map (λ y. held_at y.cfg x d time) limit
 
--- a group is suspended in a direction
-abbrev pub is_halted_group : GroupValue → Bool
-is_halted_group g = g.read.suspended || g.write.suspended
-
--- the group of a member is suspended in a direction, or is none of the groups
-abbrev pub is_halted : ℕ → GroupsValue → Bool
-is_halted member x = option_map_or (λ n. option_map_or is_halted_group (slice_get x.groups n) true) (group_of member x.members) false
-
 -- when a bucket of a side that holds nothing at a time gains again, if the side is live
 abbrev pub side_gains : ℕ → PlainSide → Gauge → List ℕ
 side_gains time x buckets = if x.live then limit_gains time buckets x.limit else []
 
--- At a time a side with these buckets, whose group is halted or not, waits for no moment but this one, if there is one: if it is live it
--- has no timeout and none has passed, its buckets that hold nothing gain again then, and its group is not halted.
-pub record IsResting (moment : Option ℕ) (time : ℕ) (x : PlainSide) (buckets : Gauge) (halted : Bool) : Type 0 where
+-- At a time a side with these buckets waits for no moment but this one, if there is one: if it is live it has no timeout and none has
+-- passed, and its buckets that hold nothing gain again then. What its group leaves it is not asked.
+pub record IsResting (moment : Option ℕ) (time : ℕ) (x : PlainSide) (buckets : Gauge) : Type 0 where
   pub reads : is_timed x dir.Read ≡ false
   pub writes : is_timed x dir.Write ≡ false
   pub unexpired : (x.live && x.expired) ≡ false
   pub gains : option_to_list moment ≡ side_gains time x buckets
-  pub unhalted : halted ≡ false
 
 -- this side has no timeout if it is live, and none has passed
 pub record IsStillSide (s : State) (e : SideId) : Type 0 where
   pub reads : is_timed (side_at s.plain e) dir.Read ≡ false
   pub writes : is_timed (side_at s.plain e) dir.Write ≡ false
   pub unexpired : ((side_at s.plain e).live && (side_at s.plain e).expired) ≡ false
-
--- What a caller sees of that: if the side is live it has no timeout and none has passed, and its group leaves it something to move, where
--- it is in one.
-pub record IsTimelessSide (s : State) (e : SideId) : Type 0 where
-  pub reads : is_timed (side_at s.plain e) dir.Read ≡ false
-  pub writes : is_timed (side_at s.plain e) dir.Write ≡ false
-  pub unexpired : ((side_at s.plain e).live && (side_at s.plain e).expired) ≡ false
-  pub shared : (d : Dir) → leaves_some (share s e d) ≡ true
 
 -- Until a time the limit of a side, if it is live, leaves it something in a direction where it does now, and nothing where it doesn't.
 abbrev pub IsLeftAlike : ℕ → State → SideId → Type 0
@@ -85,17 +66,17 @@ HasAllOf old new = (n : ℕ) → new.has n ≡ false → old.has n ≡ false
 abbrev pub AreTimeless : State → ℕ → ℕ → Type 0
 AreTimeless s from to = (e : SideId) → from ≤ e.link → e.link < to → IsStillSide s e
 
--- nor, as a caller sees it, one of an opened link that is not in this set
+-- nor one of an opened link that is not in this set
 abbrev pub AreTimelessBeside : NumberSetValue → State → Type 0
-AreTimelessBeside set s = (e : SideId) → e.link < s.plain.opened → set.has e.link ≡ false → IsTimelessSide s e
+AreTimelessBeside set s = (e : SideId) → e.link < s.plain.opened → set.has e.link ≡ false → IsStillSide s e
 
 -- There is a place for each opened link, and a side of a link that is not watched waits for no moment but its own. No other side has one.
-pub record IsWatching (r : RestingValue) (time : ℕ) (k : Links) (x : GroupsValue) : Type 0 where
+pub record IsWatching (r : RestingValue) (time : ℕ) (k : Links) : Type 0 where
   pub covers : k.opened ≤ r.watched.len
   pub places : 2 * k.opened ≤ length r.moments
   pub absent : (i : ℕ) → 2 * k.opened ≤ i → moment_for r.moments i ≡ None
   pub beside : (e : SideId) → e.link < k.opened → r.watched.has e.link ≡ false →
-      IsResting (side_moment r e) time (links.side_at k e) (links.gauge_at k e) (is_halted (number e) x)
+      IsResting (side_moment r e) time (links.side_at k e) (links.gauge_at k e)
 
 -- There is a place for each opened link, and a side of a link that is not among those with members is in no group.
 pub record IsGrouping (grouped : NumberSetValue) (opened : ℕ) (members : List (ℕ × ℕ)) : Type 0 where

@@ -1,7 +1,6 @@
 //! The relay's own state, and the calls that make its changes: links with their sides, the bytes on their way, marks, timeouts and timers,
 //! limits and rate groups, passing and closing; and hooks, which are lent that state and may ask for changes of it. It reaches no port,
-//! keeps no trace and decides
-//! no order: the drive above does that.
+//! keeps no trace and decides no order: the drive above does that.
 //!
 //! The whole state is `State` of `relay_state`, and the definitions of its changes stand there. Each call's contract says
 //! the state after it; `specs/RelayView.antt` says how the code keeps it.
@@ -15,6 +14,7 @@ mod ctl;
 mod expiry;
 mod fault;
 mod fire;
+mod halts;
 mod hook;
 mod open;
 mod pass;
@@ -30,6 +30,7 @@ pub use close::Closing;
 pub use ctl::Ctl;
 pub use ev_types::{LinkCount, Marks, PlanLine, Settings, Timeouts};
 pub use fault::AskFault;
+pub use halts::Halts;
 pub use hook::Hook;
 pub use rate_group::GroupSet;
 pub use rate_groups::RateGroups;

@@ -1,5 +1,5 @@
 // What limits and groups leave to sides, and what they lose as bytes are moved.
-ghost use Rattle.std.specs.Prelude.{◌≡◌, ℕ, ◌<◌, ◌≤◌, ◌+◌, true, length, IfSome};
+ghost use Rattle.std.specs.Prelude.{◌≡◌, ◌<◌, ◌≤◌, ◌+◌, true, length, IfSome};
 ghost use Rattle.ev_types.specs.Sides.{number};
 ghost use Rattle.rate_group.specs.Steps.{share_in, spent, left};
 ghost use Rattle.relay_model.specs.Rooms.{at_most};
@@ -11,9 +11,7 @@ ghost use Rattle.relay_core.specs.Fires.{SameFire};
 ghost use Rattle.resting_links.specs.RestingValue.{HasPlaces, Wakes};
 
 use crate::ctl::Ctl;
-use crate::watched::leaves_some;
 use ev_types::SideId;
-use number_set::NumberSet;
 use rate_group::Groups;
 use relay_sides::Dir;
 use resting_links::RestingLinks;
@@ -46,16 +44,6 @@ fn watch_where(resting: &mut RestingLinks, link: u32, told: bool)
 {
     if told {
         resting.watch(link as usize);
-    }
-}
-
-/// All links of another set are watched, where that is told.
-fn watch_all_where(resting: &mut RestingLinks, more: &NumberSet, told: bool)
-    ensures more { Wakes resting.old resting.new }
-    ensures all { told ≡ true → (n : ℕ) → HasPlaces (n + 1) resting.old → more.now.has n ≡ true → resting.new.watched.has n ≡ true }
-{
-    if told {
-        resting.watch_all(more);
     }
 }
 
@@ -103,7 +91,5 @@ impl Ctl {
         watch_where(&mut self.resting, side.link, limited);
         self.sides.spend(side, dir, count as u64, self.time);
         spend_share(&mut self.groups, side.number() as u64, dir, count as u64);
-        let free = leaves_some(self.groups.share(side.number() as u64, dir));
-        watch_all_where(&mut self.resting, &self.grouped, !free);
     }
 }

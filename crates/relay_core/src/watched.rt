@@ -1,7 +1,7 @@
-// The links that are watched as time goes on: those of sides with a timeout, of members of a suspended group, and some at which something
-// changed since they were looked at. A side with an empty bucket rests until the next tick of its limit.
+// The links that are watched as time goes on: those of sides with a timeout, and some at which something changed since they were looked
+// at. A side with an empty bucket rests until the next tick of its limit.
 ghost use Rattle.std.specs.Prelude.{◌≡◌, ◌+◌, ◌^◌, ◌<◌, ◌≤◌, true, false, MatchOption};
-ghost use Rattle.relay_core.specs.Timeless.{leaves_some, side_gains, is_halted, AreOut, IsStillSide, AreTimeless, AreTimelessBeside};
+ghost use Rattle.relay_core.specs.Timeless.{side_gains, AreOut, IsStillSide, AreTimeless, AreTimelessBeside};
 
 use crate::ctl::Ctl;
 use crate::relay::Relay;
@@ -9,19 +9,9 @@ use ev_types::{Side, SideId};
 use number_set::NumberSet;
 use relay_sides::Dir;
 
-/// Whether a bound leaves something to move.
-pub(crate) fn leaves_some(most: Option<u64>) -> bool
-    ensures { result ≡ leaves_some most }
-{
-    match most {
-        None => true,
-        Some(most) => most >= 1,
-    }
-}
-
 impl Relay {
-    /// The links that are watched. Time changes nothing at a side of every other link, but what its own limit leaves it; a link at which
-    /// that may have changed is watched as a turn begins. Constant; takes no memory.
+    /// The links that are watched. Time changes nothing at a side of every other link, but what its own limit and its group leave it; a
+    /// link at which its limit may leave it more is watched as a turn begins. Constant; takes no memory.
     ///
     /// Own.
     pub fn watched(&self) -> &NumberSet
@@ -116,26 +106,14 @@ impl Ctl {
         self.sides.gains_at(side, self.time)
     }
 
-    /// Whether the side has no timeout, if it is live, has not expired, and is left something by its group.
+    /// Whether the side has no timeout, if it is live, and has not expired.
     fn is_timeless(&self, side: SideId) -> bool
         requires { side.link < self.now.state.plain.opened }
-        ensures still { result ≡ true → IsStillSide self.now.state side }
-        ensures unhalted { result ≡ true → is_halted (number side) self.now.state.groups ≡ false }
+        ensures { result ≡ true → IsStillSide self.now.state side }
     {
         !self.is_timed(side, Dir::Read)
             && !self.is_timed(side, Dir::Write)
             && !self.is_expired(side)
-            && self.has_share(side)
-    }
-
-    /// Whether the group of a side leaves it something in both directions, where it is in one.
-    #[tactic(auto, using(crate::proofs::HaltLemmas::unhalted_by))]
-    fn has_share(&self, side: SideId) -> bool
-        ensures { result ≡ true → is_halted (number side) self.now.state.groups ≡ false }
-    {
-        let reads = leaves_some(self.groups.share(side.number() as u64, Dir::Read));
-        let writes = leaves_some(self.groups.share(side.number() as u64, Dir::Write));
-        reads && writes
     }
 
     /// Whether the side may be in a group.

@@ -11,10 +11,11 @@ use Rattle.relay_state.specs.State.{State}
 use Rattle.relay_state.specs.Counting.{is_open}
 use Rattle.relay_state.specs.Closing.{in_side, out_side}
 use Rattle.relay_drive.specs.declared.agenda.Agenda.{Agenda}
-use Rattle.relay_drive.specs.Links.{SameLink, WantsFreely, HasPairs, IsStill, IsSettled, at_time}
-use Rattle.relay_drive.specs.Agenda.{MayBeNamed, MayBeNamedRight, HoldsBeside, IsGone, IsKept, TouchedBut}
+use Rattle.relay_drive.specs.declared.naming.Naming.{Naming}
+use Rattle.relay_drive.specs.Links.{SameLink, HasPairs, IsStill, IsSettled, at_time}
+use Rattle.relay_drive.specs.Agenda.{IsNamed, IsNamedRight, HoldsBeside, IsGone, IsKept, TouchedBut}
 use Rattle.relay_drive.specs.Agenda.{TouchedEach, IsCovered, ClosingNoted}
-use Rattle.relay_drive.specs.Agenda.{IsUntold, SameBesideWants, WouldSayOf, KeepsNames, TellsNames}
+use Rattle.relay_drive.specs.Agenda.{IsUntold, SameBesideWants, WouldSayOf, KeepsNames}
 use Rattle.ev_types.specs.Trace.{Trace}
 use Rattle.ev_port.specs.declared.port.Want.{Want}
 use Rattle.relay_drive.specs.Steps.{Each}
@@ -55,11 +56,17 @@ pub gone-same : (k : ℕ) (s new : State) → SameLink k s new → IsGone s k �
 gone-same k s new same h = open-same same ∙ h
 
 -- what the table says of a link is still what its sides would want, and its counts have come as far
-pub named-same : (t : WantsValue) (k : ℕ) (s new : State) → SameLink k s new → MayBeNamedRight t s k → MayBeNamedRight t new k
+pub named-same : (t : Naming) (k : ℕ) (s new : State) → SameLink k s new → IsNamedRight t s k → IsNamedRight t new k
 named-same t k s new same h = (
   h.0,
-  (h.1.0 ∙ sym (wants-same same (in_side k) refl dir.Read), h.1.1 ∙ sym (wants-same same (in_side k) refl dir.Write)),
-  (h.2.0 ∙ sym (wants-same same (out_side k) refl dir.Read), h.2.1 ∙ sym (wants-same same (out_side k) refl dir.Write)),
+  (
+    h.1.0 ∙ sym (wants-same same t.seen.items (in_side k) refl dir.Read),
+    h.1.1 ∙ sym (wants-same same t.seen.items (in_side k) refl dir.Write),
+  ),
+  (
+    h.2.0 ∙ sym (wants-same same t.seen.items (out_side k) refl dir.Read),
+    h.2.1 ∙ sym (wants-same same t.seen.items (out_side k) refl dir.Write),
+  ),
   far-same same ∙ h.3,
 )
 
@@ -84,7 +91,7 @@ kept-but l l' k s s' b at gone t h =
 pub names-but : (l l' : Agenda) (k : ℕ) (s s' : State) (b : Bool) → AtLink k s s' → TouchedBut b k l l' → KeepsNames l s l' s'
 names-but l l' k s s' b at t = λ table h. record {
   links = omega (arith, at.opened, h.links);
-  named = beside (MayBeNamedRight table) l.to_name l'.to_name k true s s' t.to_name (λ e. no_false e)
+  named = beside (IsNamedRight table) l.to_name l'.to_name k true s s' t.to_name (λ e. no_false e)
       (λ j e lt. subst (λ m. j < m) at.opened lt) (λ j e lt p. named-same table j s s' (at.others j e) p) h.named;
 }
 
@@ -119,7 +126,7 @@ kept-closed l l' k s settled t h = record {
 pub names-beside : (l l' : Agenda) (s : State) → l'.to_name ≡ l.to_name → KeepsNames l s l' s
 names-beside l l' s want = λ table h. record {
   links = h.links;
-  named = subst (λ z. HoldsBeside z (MayBeNamedRight table) s) (sym want) h.named;
+  named = subst (λ z. HoldsBeside z (IsNamedRight table) s) (sym want) h.named;
 }
 
 -- Links of a set are looked at, and at the others the step changed nothing.
@@ -143,16 +150,14 @@ module _ (set : NumberSetValue) (l l' : Agenda) (s s' : State) (opened : s'.plai
     gone = beside-each IsGone l.maybe_open l'.maybe_open t.maybe_open (λ n lt out p. gone-same n s s' (same n lt out) p) h.gone;
   }
 
-  -- where no group keeps the others from what they would want, and they would want the same, the table is right of them
-  pub names-each : ((n : ℕ) → n < s'.plain.opened → set.has n ≡ false →
-      ((table : WantsValue) → MayBeNamedRight table s n → MayBeNamedRight table s' n) × WantsFreely s' n) → TellsNames l s l' s'
-  names-each same = λ table h. record {
-    links = omega (arith, opened, h.links);
-    named = λ n lt out.
-        let both = t.to_name n lt out in
-        let here = same n lt both.0 in
-        (here.0 table (h.named n (subst (λ m. n < m) opened lt) both.1), here.1);
-  }
+-- As a turn begins the table is right of the links that are not to be looked at, of whose sides the same is noted as before.
+pub names-begun : (l l' : Agenda) (t t' : Naming) (s s' : State) → s'.plain.opened ≡ s.plain.opened → t'.table ≡ t.table →
+    ((n : ℕ) → n < s'.plain.opened → l'.to_name.has n ≡ false →
+    (l.to_name.has n ≡ false) × (IsNamedRight t s n → IsNamedRight t' s' n)) → IsNamed l t s → IsNamed l' t' s'
+names-begun l l' t t' s s' opened same each h = record {
+  links = (let links = h.links in let z = ap (λ (z : WantsValue). z.links) same in omega (arith, opened, links, z));
+  named = λ n lt out. let one = each n lt out in one.1 (h.named n (subst (λ m. n < m) opened lt) one.0);
+}
 
 -- what was kept is kept as time goes on
 pub kept-later : (l : Agenda) (ms : ℕ) (s : State) → IsKept l s → IsKept l (at_time ms s)
@@ -210,7 +215,7 @@ kept-covered l l' s s' o c h = record {
 pub names-covered : (l l' : Agenda) (s s' : State) → OpensAtMost s s' → IsCovered s.plain.opened l l' → KeepsNames l s l' s'
 names-covered l l' s s' o c = λ table h. record {
   links = omega (arith, o.least, h.links);
-  named = beside (MayBeNamedRight table) l.to_name l'.to_name s.plain.opened true s s' c.to_name.has (λ e. no_false e)
+  named = beside (IsNamedRight table) l.to_name l'.to_name s.plain.opened true s s' c.to_name.has (λ e. no_false e)
       (opened-before s s' o)
       (λ j e lt p. named-same table j s s' (o.old j lt) p) h.named;
 }
@@ -323,15 +328,16 @@ kept-beside_wants l l' s same h = record {
 }
 
 -- a table with the same rows says the same
-pub named-rows : (l : Agenda) (t new : WantsValue) (s : State) → RowsStay t new → MayBeNamed l t s → MayBeNamed l new s
+pub named-rows : (l : Agenda) (t : Naming) (new : WantsValue) (s : State) → RowsStay t.table new → IsNamed l t s →
+    IsNamed l (record t { table = new }) s
 named-rows l t new s r h = record {
   links = subst (λ n. n ≤ s.plain.opened) (sym r.links) h.links;
   named = λ k lt out. rows (h.named k lt out);
 }
   where
-    says : (e : SideId) → WouldSayOf t s e → WouldSayOf new s e
+    says : (e : SideId) → WouldSayOf t s e → WouldSayOf (record t { table = new }) s e
     says e x = (ap (λ f. f (number e)) r.reads ∙ x.0, ap (λ f. f (number e)) r.writes ∙ x.1)
 
-    rows : {k : ℕ} → MayBeNamedRight t s k → MayBeNamedRight new s k
+    rows : {k : ℕ} → IsNamedRight t s k → IsNamedRight (record t { table = new }) s k
     rows {k = k} right =
         (subst (λ n. k < n) (sym r.links) right.0, says (in_side k) right.1, says (out_side k) right.2, right.3)

@@ -19,6 +19,7 @@ use Rattle.relay_state.specs.Passing.{passage_at, round_from}
 use Rattle.relay_state.specs.Closing.{in_side, out_side, closing_entry}
 use Rattle.relay_state.specs.Counting.{is_open}
 use Rattle.relay_core.specs.declared.close.Closing.{Closing}
+use Rattle.relay_core.specs.declared.halts.Halts.{Halts}
 use Rattle.relay_core.specs.declared.close.Closing.TheVariants as closing
 use Rattle.relay_core.specs.Steps as steps
 use Rattle.relay_core.specs.Steps.{steps_of, link_of_step}
@@ -52,14 +53,15 @@ left-same h e here d =
     λ i. option_map (λ y. held_at y.cfg (gauge i) d (time i)) (own i).limit
 
 -- its sides would want the same
-pub wants-same : {k : ℕ} {s new : State} → SameLink k s new → (e : SideId) → e.link ≡ k → (d : Dir) → would_want new e d ≡ would_want s e d
-wants-same h e here dir.Read =
+pub wants-same : {k : ℕ} {s new : State} → SameLink k s new → (seen : List Halts) (e : SideId) → e.link ≡ k → (d : Dir) →
+    would_want seen new e d ≡ would_want seen s e d
+wants-same h seen e here dir.Read =
     let own = h.side e here in
     let far = h.side (peer e) here in
     let lane = h.lane e here in
     let left = left-same h e here dir.Read in
     cc
-wants-same h e here dir.Write =
+wants-same h seen e here dir.Write =
     let own = h.side e here in
     let lane = h.lane (peer e) here in
     let left = left-same h e here dir.Write in

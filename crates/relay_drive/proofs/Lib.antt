@@ -39,3 +39,4 @@ pub mod TableLemmas
 pub mod ListedLemmas
 pub mod BegunLemmas
 pub mod WantLemmas
+pub mod ClockLemmas

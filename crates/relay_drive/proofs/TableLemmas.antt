@@ -1,5 +1,5 @@
 -- A table that says of each side what it wants names exactly the wanted sides.
-use Rattle.std.proofs.Common.{◌≡◌, ◌≢◌, ℕ, zero, suc, ◌+◌, ◌*◌, ◌<◌, ◌≤◌, ◌==◌, Bool, if◌then◌else◌, false, [], ◌∷◌, ◌++◌, filter, refl}
+use Rattle.std.proofs.Common.{◌≡◌, ◌≢◌, ℕ, zero, suc, ◌+◌, ◌*◌, ◌<◌, ◌≤◌, ◌==◌, if◌then◌else◌, false, [], ◌∷◌, ◌++◌, filter, refl}
 use Rattle.std.proofs.Common.{sym, ◌∙◌, ap}
 use Rattle.std.proofs.Common.{subst, arith}
 use Rattle.token_bucket.specs.declared.limit.Dir.TheVariants as dir
@@ -10,10 +10,11 @@ use Rattle.ev_port.specs.Table.{WantsValue, named_before, named}
 use Rattle.ev_port.proofs.NamedLemmas.{named-link}
 use Rattle.relay_state.specs.State.{State}
 use Rattle.relay_state.specs.Closing.{in_side, out_side}
-use Rattle.relay_drive.specs.Links.{WantsFreely}
+use Rattle.relay_drive.specs.Links.{WantsAsSeen}
+use Rattle.relay_drive.specs.declared.naming.Naming.{Naming}
 use Rattle.relay_drive.specs.Phases.{want_of, wants_some, wants_of_link, wants_of_links, wanted, links_from}
 use Rattle.number_set.specs.Numbers.{NumberSetValue}
-use Rattle.relay_drive.specs.Agenda.{HoldsBeside, LinkCountsAreFew, SaysOf, WouldSayOf, MayBeNamedRight, IsNamedRight}
+use Rattle.relay_drive.specs.Agenda.{HoldsBeside, LinkCountsAreFew, SaysOf, WouldSayOf, IsNamedRight}
 use Rattle.relay_drive.specs.Naming.{NamedLink, OldRowsStay}
 use Rattle.relay_drive.proofs.AgendaLemmas.{by_same, up-all}
 use Rattle.relay_drive.proofs.EachLemmas.{links_from-push}
@@ -54,44 +55,42 @@ named-wanted t s e h = ap (λ n. named_before t (2 * n)) e ∙ links-named t s s
 others-say : (t new : WantsValue) (s : State) (k : ℕ) (e : SideId) → NamedLink s k t new → e.link ≢ k → SaysOf t s e → SaysOf new s e
 others-say t new s k e n other h = let o = n.others e other in (o.0 ∙ h.0, o.1 ∙ h.1)
 
-others-would : (t new : WantsValue) (s : State) (k : ℕ) (e : SideId) → NamedLink s k t new → e.link ≢ k → WouldSayOf t s e →
-    WouldSayOf new s e
+others-would : (t : Naming) (new : WantsValue) (s : State) (k : ℕ) (e : SideId) → NamedLink s k t.table new → e.link ≢ k →
+    WouldSayOf t s e → WouldSayOf (record t { table = new }) s e
 others-would t new s k e n other h = let o = n.others e other in (o.0 ∙ h.0, o.1 ∙ h.1)
 
--- what is said of a link is what its sides want where nothing keeps them from what they would want
-pub says-of : (t : WantsValue) (s : State) (k : ℕ) → IsNamedRight t s k → SaysOf t s (in_side k) × SaysOf t s (out_side k)
-says-of t s k h = (of (in_side k) refl h.0.1, of (out_side k) refl h.0.2)
+-- what is said of a link is what its sides want, if groups are suspended as was noted
+pub says-of : (t : Naming) (s : State) (k : ℕ) → WantsAsSeen t.seen.items s → IsNamedRight t s k →
+    SaysOf t.table s (in_side k) × SaysOf t.table s (out_side k)
+says-of t s k seen h = (of (in_side k) h.1, of (out_side k) h.2)
   where
-    of : (e : SideId) → e.link ≡ k → WouldSayOf t s e → SaysOf t s e
-    of e here x = (x.0 ∙ sym (h.1 e here dir.Read), x.1 ∙ sym (h.1 e here dir.Write))
+    of : (e : SideId) → WouldSayOf t s e → SaysOf t.table s e
+    of e x = (x.0 ∙ sym (seen e dir.Read), x.1 ∙ sym (seen e dir.Write))
 
--- One link more was named. It is out of the set only where nothing keeps its sides from what they would want.
-pub named-next : (t new : WantsValue) (set left : NumberSetValue) (s : State) (k : ℕ) (again : Bool) → k < t.links → NamedLink s k t new →
-    ((n : ℕ) → left.has n ≡ (if n == k then again else set.has n)) → LinkCountsAreFew s k → (again ≡ false → WantsFreely s k) →
-    HoldsBeside set (IsNamedRight t) s → HoldsBeside left (IsNamedRight new) s
-named-next t new set left s k again within n has near free h = λ j lt out.
+-- One link more was named, which is out of the set then.
+pub named-next : (t : Naming) (new : WantsValue) (set left : NumberSetValue) (s : State) (k : ℕ) → WantsAsSeen t.seen.items s →
+    k < t.table.links → NamedLink s k t.table new → ((n : ℕ) → left.has n ≡ (if n == k then false else set.has n)) → LinkCountsAreFew s k →
+    HoldsBeside set (IsNamedRight t) s → HoldsBeside left (IsNamedRight (record t { table = new })) s
+named-next t new set left s k seen within n has near h = λ j lt out.
     by_same j k
     (λ e test.
-    let freely = free (sym (has j ∙ ap (λ z. if z then again else set.has j) test) ∙ out) in
-    let would : (e : SideId) → e.link ≡ k → SaysOf new s e → WouldSayOf new s e =
-    λ e here x. (x.0 ∙ freely e here dir.Read, x.1 ∙ freely e here dir.Write) in
-    let may : MayBeNamedRight new s k = (
+    let would : (e : SideId) → SaysOf new s e → WouldSayOf (record t { table = new }) s e =
+    λ e x. (x.0 ∙ seen e dir.Read, x.1 ∙ seen e dir.Write) in
+    let own : IsNamedRight (record t { table = new }) s k = (
       subst (λ m. k < m) (sym n.links) within,
-      would (in_side k) refl n.near,
-      would (out_side k) refl n.far,
+      would (in_side k) n.near,
+      would (out_side k) n.far,
       near,
     ) in
-    let own : IsNamedRight new s k = (may, freely) in
-    subst (IsNamedRight new s) (sym e) own)
+    subst (IsNamedRight (record t { table = new }) s) (sym e) own)
     (λ e test.
-    let before = h j lt (sym (has j ∙ ap (λ z. if z then again else set.has j) test) ∙ out) in
-    let may : MayBeNamedRight new s j = (
-      subst (λ m. j < m) (sym n.links) before.0.0,
-      others-would t new s k (in_side j) n e before.0.1,
-      others-would t new s k (out_side j) n e before.0.2,
-      before.0.3,
+    let before = h j lt (sym (has j ∙ ap (λ z. if z then false else set.has j) test) ∙ out) in
+    let other : IsNamedRight (record t { table = new }) s j = (
+      subst (λ m. j < m) (sym n.links) before.0,
+      others-would t new s k (in_side j) n e before.1,
+      others-would t new s k (out_side j) n e before.2,
+      before.3,
     ) in
-    let other : IsNamedRight new s j = (may, before.1) in
     other)
 
 -- and the table says what the sides want of all links up to it
@@ -107,17 +106,16 @@ said-next t new s from k n before between j lt =
     (others-say t new s k (in_side j) n e was.0, others-say t new s k (out_side j) n e was.1))
 
 -- more rows stand behind the old ones
-pub named-lengthened : (t new : WantsValue) (set : NumberSetValue) (s : State) → OldRowsStay t new → HoldsBeside set (IsNamedRight t) s →
-    HoldsBeside set (IsNamedRight new) s
+pub named-lengthened : (t : Naming) (new : WantsValue) (set : NumberSetValue) (s : State) → OldRowsStay t.table new →
+    HoldsBeside set (IsNamedRight t) s → HoldsBeside set (IsNamedRight (record t { table = new })) s
 named-lengthened t new set s r h = λ k lt out.
     let before = h k lt out in
-    let near = r.rows (number (in_side k)) (omega (arith, before.0.0)) in
-    let far = r.rows (number (out_side k)) (omega (arith, before.0.0)) in
-    let may : MayBeNamedRight new s k = (
-      omega (arith, before.0.0, r.links),
-      (near.0 ∙ before.0.1.0, near.1 ∙ before.0.1.1),
-      (far.0 ∙ before.0.2.0, far.1 ∙ before.0.2.1),
-      before.0.3,
+    let near = r.rows (number (in_side k)) (omega (arith, before.0)) in
+    let far = r.rows (number (out_side k)) (omega (arith, before.0)) in
+    let right : IsNamedRight (record t { table = new }) s k = (
+      omega (arith, before.0, r.links),
+      (near.0 ∙ before.1.0, near.1 ∙ before.1.1),
+      (far.0 ∙ before.2.0, far.1 ∙ before.2.1),
+      before.3,
     ) in
-    let right : IsNamedRight new s k = (may, before.1) in
     right

@@ -9,7 +9,7 @@ use Rattle.number_set.specs.Numbers.{NumberSetValue}
 use Rattle.relay_core.specs.Fires.{events_of}
 use Rattle.relay_state.specs.State.{State}
 use Rattle.relay_drive.specs.declared.agenda.Agenda.{Agenda}
-use Rattle.relay_drive.specs.Agenda.{HoldsBeside, IsKept, MayBeNamedRight, IsGone, KeepsNames}
+use Rattle.relay_drive.specs.Agenda.{HoldsBeside, IsKept, IsNamedRight, IsGone, KeepsNames}
 use Rattle.relay_drive.specs.Asked.{IsAskedElsewhere, LeavesOut, TouchedAsked}
 use Rattle.relay_drive.specs.Links.{SameLink, IsStill, IsSettled}
 use Rattle.relay_drive.proofs.AgendaLemmas.{gone-same, named-same}
@@ -68,6 +68,6 @@ module _ (log : Trace) (l l' : Agenda) (s s' : State) (opened : s'.plain.opened 
   pub asked-names : KeepsNames l s l' s'
   asked-names table h = record {
     links = omega (arith, opened, h.links);
-    named = beside-asked (MayBeNamedRight table) log l.to_name l'.to_name s s' opened touched.to_name
+    named = beside-asked (IsNamedRight table) log l.to_name l'.to_name s s' opened touched.to_name
         (λ k a p. named-same table k s s' (same k a) p) h.named;
   }

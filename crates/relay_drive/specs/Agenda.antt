@@ -11,7 +11,8 @@ use Rattle.relay_state.specs.Rooms.{wants}
 use Rattle.relay_state.specs.Counting.{is_open}
 use Rattle.relay_state.specs.Closing.{in_side, out_side}
 use Rattle.relay_drive.specs.declared.agenda.Agenda.{Agenda}
-use Rattle.relay_drive.specs.Links.{IsStill, IsSettled, WantsFreely, would_want, has_spent_count}
+use Rattle.relay_drive.specs.declared.naming.Naming.{Naming}
+use Rattle.relay_drive.specs.Links.{IsStill, IsSettled, would_want, has_spent_count}
 
 -- what is so of each opened link that is not in a set
 abbrev pub HoldsBeside : NumberSetValue → (State → ℕ → Type 0) → State → Type 0
@@ -39,32 +40,24 @@ pub record IsKept (l : Agenda) (s : State) : Type 0 where
   pub settled : HoldsBeside l.to_close IsSettled s
   pub gone : HoldsBeside l.maybe_open IsGone s
 
--- the table says of this side what it wants, and what it would want
+-- the table says of this side what it wants
 abbrev pub SaysOf : WantsValue → State → SideId → Type 0
 SaysOf t s e = (t.reads (number e) ≡ wants s e dir.Read) × (t.writes (number e) ≡ wants s e dir.Write)
 
-abbrev pub WouldSayOf : WantsValue → State → SideId → Type 0
-WouldSayOf t s e = (t.reads (number e) ≡ would_want s e dir.Read) × (t.writes (number e) ≡ would_want s e dir.Write)
+-- and what it would want, if groups were suspended as is noted beside the table
+abbrev pub WouldSayOf : Naming → State → SideId → Type 0
+WouldSayOf t s e = (t.table.reads (number e) ≡ would_want t.seen.items s e dir.Read)
+    × (t.table.writes (number e) ≡ would_want t.seen.items s e dir.Write)
 
--- The table has this link, says what its sides would want, and no count of it has come far. While a turn goes on a group may keep them
--- from that.
-abbrev pub MayBeNamedRight : WantsValue → State → ℕ → Type 0
-MayBeNamedRight t s k =
-    (k < t.links) × WouldSayOf t s (in_side k) × WouldSayOf t s (out_side k) × LinkCountsAreFew s k
-
--- and nothing does
-abbrev pub IsNamedRight : WantsValue → State → ℕ → Type 0
-IsNamedRight t s k = MayBeNamedRight t s k × WantsFreely s k
+-- The table has this link, says what its sides would want, and no count of it has come far.
+abbrev pub IsNamedRight : Naming → State → ℕ → Type 0
+IsNamedRight t s k =
+    (k < t.table.links) × WouldSayOf t s (in_side k) × WouldSayOf t s (out_side k) × LinkCountsAreFew s k
 
 -- so it is for each link that is not to be looked at
-pub record IsNamed (l : Agenda) (t : WantsValue) (s : State) : Type 0 where
-  pub links : t.links ≤ s.plain.opened
+pub record IsNamed (l : Agenda) (t : Naming) (s : State) : Type 0 where
+  pub links : t.table.links ≤ s.plain.opened
   pub named : HoldsBeside l.to_name (IsNamedRight t) s
-
--- so it is for each link that is not to be looked at, while a turn goes on
-pub record MayBeNamed (l : Agenda) (t : WantsValue) (s : State) : Type 0 where
-  pub links : t.links ≤ s.plain.opened
-  pub named : HoldsBeside l.to_name (MayBeNamedRight t) s
 
 -- A link is in all sets, but perhaps in that of open links, and of every other link they say what they said.
 pub record TouchedBut (opened : Bool) (k : ℕ) (old new : Agenda) : Type 0 where
@@ -126,11 +119,11 @@ abbrev pub SameBesideWants : Agenda → Agenda → Type 0
 SameBesideWants old new = (new.to_pass ≡ old.to_pass) × (new.to_close ≡ old.to_close) × (new.maybe_open ≡ old.maybe_open) ×
     (new.to_name.len ≡ old.to_name.len)
 
+-- Where that is told, the set of wants to be looked at has all opened links of another set, beside what it had. The other sets stay.
+pub record NamesEach (told : Bool) (set : NumberSetValue) (opened : ℕ) (old new : Agenda) : Type 0 where
+  pub same : SameBesideWants old new
+  pub to_name : (n : ℕ) → n < opened → new.to_name.has n ≡ false → (told ≡ true → set.has n ≡ false) × (old.to_name.has n ≡ false)
+
 -- What was kept is kept, of every table too: from a state and the sets that stood for it to another state and its sets.
 abbrev pub KeepsNames : Agenda → State → Agenda → State → Type 0
-KeepsNames old s new s' = (t : WantsValue) → MayBeNamed old t s → MayBeNamed new t s'
-
--- As a turn begins, what may be right is right, of every table: a link that a group may keep from what it would want is to be looked at
--- then.
-abbrev pub TellsNames : Agenda → State → Agenda → State → Type 0
-TellsNames old s new s' = (t : WantsValue) → MayBeNamed old t s → IsNamed new t s'
+KeepsNames old s new s' = (t : Naming) → IsNamed old t s → IsNamed new t s'

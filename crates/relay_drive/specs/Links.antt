@@ -1,6 +1,6 @@
 -- What of the state belongs to one link, and when a link has nothing to be done. A step of a turn changes what belongs to one link
 -- alone, so that what was found of another one is still so.
-use Rattle.std.specs.Prelude.{◌≡◌, ℕ, ◌-◌, Bool, ◌&&◌, ◌||◌, not, nat_le, if◌then◌else◌, min, length, false, is_some}
+use Rattle.std.specs.Prelude.{◌≡◌, ℕ, ◌-◌, Bool, ◌&&◌, ◌||◌, not, nat_le, if◌then◌else◌, min, length, false, is_some, List}
 use Rattle.std.specs.List.{All}
 use Rattle.token_bucket.specs.declared.limit.Dir.{Dir}
 use Rattle.token_bucket.specs.declared.limit.Dir.TheVariants as dir
@@ -10,7 +10,9 @@ use Rattle.relay_model.specs.Rooms.{at_most, most_at_once, read_mark, may_read, 
 use Rattle.relay_core.specs.declared.close.Closing.{Closing}
 pub use Rattle.relay_state.specs.Spent.{has_spent_count_from, has_spent_count}
 pub use Rattle.relay_core.specs.Pairs.{HasPairs}
-use Rattle.relay_core.specs.Timeless.{IsTimelessSide}
+use Rattle.relay_core.specs.Halts.{is_free}
+use Rattle.relay_core.specs.Timeless.{IsStillSide}
+use Rattle.relay_core.specs.declared.halts.Halts.{Halts}
 use Rattle.relay_core.specs.Steps as steps
 use Rattle.relay_core.specs.Steps.{steps_of}
 use Rattle.relay_state.specs.State.{State, lane_at, gauge_at, with_plain}
@@ -48,19 +50,21 @@ IsUncalled s step = is_some (closing_entry s (steps.close_step step)) ≡ false
 abbrev pub IsSettled : State → ℕ → Type 0
 IsSettled s k = All (IsUncalled s) (steps_of k)
 
--- What a side would want if its group didn't keep it from moving bytes.
-abbrev pub would_want : State → SideId → Dir → Bool
-would_want s e dir.Read =
-    nat_le 1 (if may_read s.plain e then at_most (allowance s e dir.Read)
+-- What a side would want, if groups were suspended as was noted.
+abbrev pub would_want : List Halts → State → SideId → Dir → Bool
+would_want seen s e dir.Read =
+    is_free seen dir.Read (side_at s.plain e).group
+    && nat_le 1 (if may_read s.plain e then at_most (allowance s e dir.Read)
     (min most_at_once (read_mark s.plain e - input_length s e)) else 0)
-would_want s e dir.Write =
-    nat_le 1 (if may_write s.plain e then at_most (allowance s e dir.Write) (min most_at_once (length (waiting_for s e))) else 0)
+would_want seen s e dir.Write =
+    (is_free seen dir.Write (side_at s.plain e).group
+    && nat_le 1 (if may_write s.plain e then at_most (allowance s e dir.Write) (min most_at_once (length (waiting_for s e))) else 0))
     || (is_connecting s.plain e && not (side_at s.plain e).failed)
 
--- no group keeps the sides of this link from what they would want
-abbrev pub WantsFreely : State → ℕ → Type 0
-WantsFreely s k = (e : SideId) → e.link ≡ k → (d : Dir) → wants s e d ≡ would_want s e d
+-- they are: each side wants that
+abbrev pub WantsAsSeen : List Halts → State → Type 0
+WantsAsSeen seen s = (e : SideId) (d : Dir) → wants s e d ≡ would_want seen s e d
 
--- time changes nothing at the sides of this link, but what their own limits leave them
+-- time changes nothing at the sides of this link, but what their limits and groups leave them
 abbrev pub IsTimelessLink : State → ℕ → Type 0
-IsTimelessLink s k = (e : SideId) → e.link ≡ k → IsTimelessSide s e
+IsTimelessLink s k = (e : SideId) → e.link ≡ k → IsStillSide s e

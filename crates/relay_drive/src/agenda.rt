@@ -1,7 +1,7 @@
 // At which links a turn has something to look at. A link at which nothing was found to do is left alone until something changes there, so
 // that it costs a turn nothing.
 ghost use Rattle.std.specs.Prelude.{◌≡◌, ◌<◌, ◌≤◌, true, false, MatchOption, OnOk};
-ghost use Rattle.relay_drive.specs.Agenda.{Touched, TouchedEach, Covers, IsCovered, IsUntold};
+ghost use Rattle.relay_drive.specs.Agenda.{Touched, TouchedEach, NamesEach, Covers, IsCovered, IsUntold};
 ghost use Rattle.relay_drive.specs.Moves.{OnlyForMemory};
 
 use crate::fault::DriveFault;
@@ -10,8 +10,8 @@ use std::alloc::Global;
 
 /// The links at which passing and closing may have something to do, those that may have a live side, and those of which the table of wants
 /// may not be right. A link that isn't in a set was looked at, and nothing changed there since, but for what groups leave its sides to
-/// move: the links of sides that these may keep from moving bytes are watched by the relay, and are in all sets as a turn begins, and so
-/// are those whose limits may leave more than before.
+/// move. The links whose limits may leave more than before are in all sets as a turn begins; those with members are among those of which
+/// the table may not be right once a group was suspended or goes on.
 #[derive(Drop)]
 pub(crate) struct Agenda {
     pub(crate) to_pass: NumberSet,
@@ -106,6 +106,21 @@ impl Agenda {
         let mut from = 0;
         while let Some(link) = next_link(set, from, opened) {
             self.touch(link);
+            from = link + 1;
+        }
+    }
+
+    /// Where that is told, the table of wants may not be right of each opened link of a set. Takes no memory; costs what `touch_each` does.
+    pub(crate) fn name_each_where(&mut self, told: bool, set: &NumberSet, opened: u32)
+        requires { opened ≤ self.old.to_name.len }
+        ensures { NamesEach told set.now opened self.old self.new }
+    {
+        if !told {
+            return;
+        }
+        let mut from = 0;
+        while let Some(link) = next_link(set, from, opened) {
+            self.to_name.insert(link as usize);
             from = link + 1;
         }
     }

@@ -13,6 +13,7 @@ ghost use Rattle.relay_steps.specs.Meaning.{LeftFor};
 
 use crate::agenda::{Agenda, next_link};
 use crate::fault::{DriveFault, TurnEnd};
+use crate::naming::Naming;
 use crate::run::Run;
 use crate::seats::{Seats, slots_taken};
 use crate::turn::next_turn;
@@ -31,7 +32,7 @@ const MOST_READ: usize = 16_384;
 pub struct Drive {
     run: Run,
     agenda: Agenda,
-    wants: WantTable,
+    naming: Naming,
     inbox: Vec<u8>,
     kept: Option<Result<TurnEnd, DriveFault>>,
 }
@@ -83,7 +84,10 @@ impl Drive {
                 entries: 0,
             },
             agenda: Agenda::new(alloc),
-            wants: WantTable::new(alloc),
+            naming: Naming {
+                table: WantTable::new(alloc),
+                seen: Vec::new(alloc),
+            },
             inbox,
             kept: None,
         })
@@ -91,8 +95,8 @@ impl Drive {
 
     /// Makes one turn. It ends where a hook asked for that, and after such an end or a refusal every later turn is answered so, with no
     /// call of the port and no entry. A turn is refused as spent where a count, or the number of entries, has come to 2^62 as it begins.
-    /// Linear in the links at which something is to be done, in those of sides with a timeout, an empty bucket or a suspended group, in the
-    /// groups, in what it moves, and in the members of groups where one is suspended in it; and it looks at a word for each 64 links.
+    /// Linear in the links at which something is to be done, in those of sides with a timeout, in the groups, in what it moves, and in the
+    /// members of all groups if one was suspended or goes on; and it looks at a word for each 4,096 links.
     pub fn turn<P: Port, S: Scribe>(
         &mut self,
         seats: &mut Seats,
@@ -135,7 +139,7 @@ impl Drive {
         let answer = next_turn(
             &mut self.run,
             &mut self.agenda,
-            &mut self.wants,
+            &mut self.naming,
             &mut self.inbox,
             seats,
             port,

@@ -13,6 +13,7 @@ mod close;
 mod dispatch;
 mod drive;
 mod fault;
+mod naming;
 mod pass;
 mod poll;
 mod run;

@@ -6,7 +6,8 @@ ghost use Rattle.ev_port.specs.Polling.{ready_events};
 ghost use Rattle.ev_port.specs.Table.{named, RowsStay};
 ghost use Rattle.relay_drive.specs.Phases.{wanted, CutPoll, CutPolling, AllOpened};
 ghost use Rattle.relay_drive.specs.Known.{Point, begun_if};
-ghost use Rattle.relay_drive.specs.Agenda.{IsKept, IsNamed, MayBeNamed, CountsAreFew, SameBesideWants};
+ghost use Rattle.relay_drive.specs.Links.{WantsAsSeen};
+ghost use Rattle.relay_drive.specs.Agenda.{IsKept, IsNamed, CountsAreFew, SameBesideWants};
 ghost use Rattle.relay_drive.specs.Naming.{NamedSide, NamedLink, OldRowsStay};
 ghost use Rattle.relay_drive.specs.PollPhase.{PollsListed, PollsAndAcceptsListed};
 ghost use Rattle.relay_drive.specs.Moves.{Moves, GetsTo, OnlyForMemory};
@@ -14,6 +15,7 @@ ghost use Rattle.relay_drive.specs.Moves.{Moves, GetsTo, OnlyForMemory};
 use crate::accept::accept;
 use crate::agenda::{Agenda, next_link};
 use crate::fault::DriveFault;
+use crate::naming::Naming;
 use crate::run::{Run, put};
 use ev_port::{Polled, Port, Scribe, Want, WantTable};
 use ev_types::{Entry, Side, SideId};
@@ -55,22 +57,21 @@ fn lengthen(relay: &Relay, wants: &mut WantTable) -> Result<(), DriveFault>
     Ok(())
 }
 
-/// The table says what the sides want. Only the links are looked at of which it may not be right. One whose sides a group may keep from
-/// what they would want is looked at again.
-fn name_wants(relay: &Relay, agenda: &mut Agenda, wants: &mut WantTable) -> Result<(), DriveFault>
-    requires named { IsNamed agenda.old wants.old relay.now.state }
+/// The table says what the sides want. Only the links are looked at of which it may not be right.
+fn name_wants(relay: &Relay, agenda: &mut Agenda, naming: &mut Naming) -> Result<(), DriveFault>
+    requires named { IsNamed agenda.old naming.old relay.now.state }
+    requires seen { WantsAsSeen naming.old.seen.items relay.now.state }
     requires few { CountsAreFew relay.now.state }
-    ensures named { OnOk result (named wants.new ≡ wanted relay.now.state) }
-    ensures right { OnOk result (MayBeNamed agenda.new wants.new relay.now.state) }
+    ensures named { OnOk result (named naming.new.table ≡ wanted relay.now.state) }
+    ensures right { OnOk result (IsNamed agenda.new naming.new relay.now.state) }
     ensures same { SameBesideWants agenda.old agenda.new }
     ensures cause { OnlyForMemory result }
 {
-    lengthen(relay, wants)?;
+    lengthen(relay, &mut naming.table)?;
     let mut from = 0;
     while let Some(link) = next_link(&agenda.to_name, from, relay.opened()) {
-        name_link(relay, wants, link);
-        let again = relay.watched().contains(link as usize);
-        agenda.to_name.put(link as usize, again);
+        name_link(relay, &mut naming.table, link);
+        agenda.to_name.remove(link as usize);
         from = link + 1;
     }
     Ok(())
@@ -152,21 +153,22 @@ fn ask_poll<P: Port, S: Scribe>(
 pub(crate) fn poll<P: Port, S: Scribe>(
     run: &mut Run,
     agenda: &mut Agenda,
-    wants: &mut WantTable,
+    naming: &mut Naming,
     port: &mut P,
     scribe: &mut S,
 ) -> Result<(), DriveFault>
     requires kept { IsKept agenda.old run.old.relay.state }
-    requires named { IsNamed agenda.old wants.old run.old.relay.state }
+    requires named { IsNamed agenda.old naming.old run.old.relay.state }
+    requires seen { WantsAsSeen naming.old.seen.items run.old.relay.state }
     requires few { CountsAreFew run.old.relay.state }
-    ensures went { GetsTo P.Port S.Scribe result Point.Begun Point.Accepted (λ _. PollsAndAcceptsListed wants.new.list) CutPolling
+    ensures went { GetsTo P.Port S.Scribe result Point.Begun Point.Accepted (λ _. PollsAndAcceptsListed naming.new.table.list) CutPolling
         (run.old, port.old, scribe.old) (run.new, port.new, scribe.new) }
-    ensures opened { OnOk result (AllOpened wants.new.list run.new.relay.state.plain.opened) }
+    ensures opened { OnOk result (AllOpened naming.new.table.list run.new.relay.state.plain.opened) }
     ensures kept { OnOk result (IsKept agenda.new run.new.relay.state) }
-    ensures named { OnOk result (MayBeNamed agenda.new wants.new run.new.relay.state) }
+    ensures named { OnOk result (IsNamed agenda.new naming.new run.new.relay.state) }
 {
-    name_wants(&run.relay, agenda, wants)?;
-    let ready = ask_poll(run, wants, port, scribe)?;
+    name_wants(&run.relay, agenda, naming)?;
+    let ready = ask_poll(run, &mut naming.table, port, scribe)?;
     if !ready {
         return Ok(());
     }

@@ -7,8 +7,10 @@ ghost use Rattle.relay_drive.specs.Steps.{Nothing};
 ghost use Rattle.relay_drive.specs.Phases.{TicksOnce, ServedThen, CutStart, PassesAndCloses, CutFinish};
 ghost use Rattle.relay_drive.specs.Known.{Point};
 ghost use Rattle.relay_core.specs.Timeless.{AreLeftAlikeBeside};
-ghost use Rattle.relay_drive.specs.Links.{SameLink, IsTimelessLink, at_time};
-ghost use Rattle.relay_drive.specs.Agenda.{HoldsBeside, LinkCountsAreFew, CountsAreFew, IsKept, MayBeNamed, KeepsNames, TellsNames};
+ghost use Rattle.relay_drive.specs.Links.{SameLink, IsTimelessLink, WantsAsSeen, at_time};
+ghost use Rattle.relay_drive.specs.Agenda.{HoldsBeside, LinkCountsAreFew, CountsAreFew, IsKept, IsNamed, KeepsNames};
+ghost use Rattle.ev_types.specs.Trace.{Trace};
+ghost use Rattle.relay_drive.specs.DriveStands.{StandsBetween};
 ghost use Rattle.relay_drive.specs.DriveView.{IsReady};
 ghost use Rattle.relay_drive.specs.Seats.{telling, AreSeated};
 ghost use Rattle.relay_drive.specs.Moves.{Moves, GetsTo, Does, EndsTold, OnlyForMemory};
@@ -17,12 +19,13 @@ use crate::agenda::{Agenda, next_link};
 use crate::close::close;
 use crate::dispatch::dispatch;
 use crate::fault::{DriveFault, TurnEnd};
+use crate::naming::Naming;
 use crate::pass::pass;
 use crate::poll::poll;
 use crate::run::{Run, put};
 use crate::seats::Seats;
 use crate::serve::serve;
-use ev_port::{Port, Scribe, WantTable};
+use ev_port::{Port, Scribe};
 use ev_types::Entry;
 use relay_core::{Hook, Relay};
 
@@ -54,16 +57,19 @@ fn read_clock<P: Port, S: Scribe>(
     Ok(())
 }
 
-/// Reads the port's clock once. Every link is to be looked at then at which a side has a timeout, its group may keep it from moving
-/// bytes, or what its limit leaves it may have changed.
+/// Reads the port's clock once. Every link is to be looked at then at which a side has a timeout, or what its limit leaves it may have
+/// changed; and what the sides of links with members want, if a group was suspended or goes on since that was noted.
 fn clock<P: Port, S: Scribe>(
     run: &mut Run,
     agenda: &mut Agenda,
+    naming: &mut Naming,
     port: &mut P,
     scribe: &mut S,
 ) -> Result<(), DriveFault>
     requires turns { run.old.relay.state.plain.turn < 2 ^ 62 }
+    requires stands { (t : Trace) × StandsBetween t run.old.relay.state }
     requires kept { IsKept agenda.old run.old.relay.state }
+    requires named { IsNamed agenda.old naming.old run.old.relay.state }
     ensures went { MatchResult result
         (λ _. Moves P.Port S.Scribe Point.Between Point.Begun false TicksOnce
         (run.old, port.old, scribe.old) (run.new, port.new, scribe.new))
@@ -71,12 +77,16 @@ fn clock<P: Port, S: Scribe>(
         (run.old, port.old, scribe.old) (run.new, port.new, scribe.new)) }
     ensures cause { OnlyForMemory result }
     ensures kept { OnOk result (IsKept agenda.new run.new.relay.state) }
-    ensures named { OnOk result (TellsNames agenda.old run.old.relay.state agenda.new run.new.relay.state) }
+    ensures named { OnOk result (IsNamed agenda.new naming.new run.new.relay.state) }
+    ensures seen { OnOk result (WantsAsSeen naming.new.seen.items run.new.relay.state) }
     ensures few { OnOk result (CountsAreFew run.old.relay.state → CountsAreFew run.new.relay.state) }
 {
+    let known = run.relay.lengthen_halts(&mut naming.seen)?;
     read_clock(run, port, scribe)?;
     let opened = run.relay.opened();
     agenda.touch_each(run.relay.watched(), opened);
+    let same = run.relay.note_halts(&mut naming.seen);
+    agenda.name_each_where(!(known & same), run.relay.grouped(), opened);
     run.relay.forget_timeless();
     Ok(())
 }
@@ -104,7 +114,7 @@ fn finish<P: Port, S: Scribe>(
 fn start<P: Port, S: Scribe>(
     run: &mut Run,
     agenda: &mut Agenda,
-    wants: &mut WantTable,
+    naming: &mut Naming,
     inbox: &mut [u8],
     port: &mut P,
     scribe: &mut S,
@@ -112,17 +122,18 @@ fn start<P: Port, S: Scribe>(
     requires inbox { length inbox.old ≡ 16384 }
     requires turns { run.old.relay.state.plain.turn < 2 ^ 62 }
     requires kept { IsKept agenda.old run.old.relay.state }
-    requires named { MayBeNamed agenda.old wants.old run.old.relay.state }
+    requires stands { (t : Trace) × StandsBetween t run.old.relay.state }
+    requires named { IsNamed agenda.old naming.old run.old.relay.state }
     requires few { CountsAreFew run.old.relay.state }
     ensures went { GetsTo P.Port S.Scribe result Point.Between Point.Accepted (λ _. ServedThen Nothing) CutStart
         (run.old, port.old, scribe.old) (run.new, port.new, scribe.new) }
     ensures kept { OnOk result (IsKept agenda.new run.new.relay.state) }
-    ensures named { OnOk result (MayBeNamed agenda.new wants.new run.new.relay.state) }
+    ensures named { OnOk result (IsNamed agenda.new naming.new run.new.relay.state) }
     ensures inbox { length inbox.new ≡ 16384 }
 {
-    clock(run, agenda, port, scribe)?;
-    poll(run, agenda, wants, port, scribe)?;
-    serve(run, agenda, wants.list(), inbox, port, scribe)?;
+    clock(run, agenda, naming, port, scribe)?;
+    poll(run, agenda, naming, port, scribe)?;
+    serve(run, agenda, naming.table.list(), inbox, port, scribe)?;
     Ok(())
 }
 
@@ -130,7 +141,7 @@ fn start<P: Port, S: Scribe>(
 fn turn<P: Port, S: Scribe>(
     run: &mut Run,
     agenda: &mut Agenda,
-    wants: &mut WantTable,
+    naming: &mut Naming,
     inbox: &mut [u8],
     seats: &mut Seats,
     port: &mut P,
@@ -138,17 +149,17 @@ fn turn<P: Port, S: Scribe>(
 ) -> Result<TurnEnd, DriveFault>
     requires inbox { length inbox.old ≡ 16384 }
     requires turns { run.old.relay.state.plain.turn < 2 ^ 62 }
-    requires ready { IsReady agenda.old wants.old run.old.relay.state }
+    requires ready { IsReady agenda.old naming.old run.old.relay.state }
     requires few { CountsAreFew run.old.relay.state }
     requires seated { AreSeated run.old.relay.state seats.old.hooks.items seats.old.gone.items }
     ensures inbox { length inbox.new ≡ 16384 }
     ensures went { EndsTold P.Port S.Scribe (telling (λ h. heard h) (λ h. asked h) (λ h. planned h)) result
         (run.old, port.old, scribe.old) (run.new, port.new, scribe.new)
         seats.old.hooks.items seats.old.gone.items seats.new.hooks.items seats.new.gone.items }
-    ensures ready { result ≡ Ok Went → IsReady agenda.new wants.new run.new.relay.state }
+    ensures ready { result ≡ Ok Went → IsReady agenda.new naming.new run.new.relay.state }
     ensures seated { result ≡ Ok Went → AreSeated run.new.relay.state seats.new.hooks.items seats.new.gone.items }
 {
-    start(run, agenda, wants, inbox, port, scribe)?;
+    start(run, agenda, naming, inbox, port, scribe)?;
     match dispatch(run, agenda, seats, scribe)? {
         TurnEnd::Went => {
             finish(run, agenda, port, scribe)?;
@@ -181,14 +192,14 @@ fn is_spent(relay: &Relay, agenda: &Agenda) -> bool
 pub(crate) fn next_turn<P: Port, S: Scribe>(
     run: &mut Run,
     agenda: &mut Agenda,
-    wants: &mut WantTable,
+    naming: &mut Naming,
     inbox: &mut [u8],
     seats: &mut Seats,
     port: &mut P,
     scribe: &mut S,
 ) -> Result<TurnEnd, DriveFault>
     requires inbox { length inbox.old ≡ 16384 }
-    requires ready { IsReady agenda.old wants.old run.old.relay.state }
+    requires ready { IsReady agenda.old naming.old run.old.relay.state }
     requires seated { AreSeated run.old.relay.state seats.old.hooks.items seats.old.gone.items }
     ensures spent { nat_le (2 ^ 62) run.old.entries || is_spent run.old.relay.state ≡ true →
         (result ≡ Err Spent) × (run.new ≡ run.old) × (port.new ≡ port.old) × (scribe.new ≡ scribe.old)
@@ -197,12 +208,12 @@ pub(crate) fn next_turn<P: Port, S: Scribe>(
         EndsTold P.Port S.Scribe (telling (λ h. heard h) (λ h. asked h) (λ h. planned h)) result
         (run.old, port.old, scribe.old) (run.new, port.new, scribe.new)
         seats.old.hooks.items seats.old.gone.items seats.new.hooks.items seats.new.gone.items }
-    ensures ready { result ≡ Ok Went → IsReady agenda.new wants.new run.new.relay.state }
+    ensures ready { result ≡ Ok Went → IsReady agenda.new naming.new run.new.relay.state }
     ensures seated { result ≡ Ok Went → AreSeated run.new.relay.state seats.new.hooks.items seats.new.gone.items }
     ensures inbox { length inbox.new ≡ 16384 }
 {
     if run.entries >= SPENT || is_spent(&run.relay, agenda) {
         return Err(DriveFault::Spent);
     }
-    turn(run, agenda, wants, inbox, seats, port, scribe)
+    turn(run, agenda, naming, inbox, seats, port, scribe)
 }

@@ -22,14 +22,6 @@ wakes-then p q = record {
   none = λ i is. q.none i (p.none i is);
 }
 
--- what is watched stays watched
-pub wakes-has : {a b : RestingValue} → Wakes a b → (n : ℕ) → a.watched.has n ≡ true → b.watched.has n ≡ true
-wakes-has {a = a} {b = b} p n is = go (b.watched.has n) refl
-  where
-    go : (c : Bool) → b.watched.has n ≡ c → b.watched.has n ≡ true
-    go true e = e
-    go false e = absurd (let wrong : true ≡ false = sym is ∙ p.grew n e in cc)
-
 -- the side of a number
 pub record Numbered (i : ℕ) : Type 0 where
   pub of : SideId

@@ -99,24 +99,6 @@ impl RestingLinks {
         self.moments.set(2 * link + 1, far);
     }
 
-    /// All links of another set are watched that have places. Takes no memory; costs what `watch` does for each of them.
-    ///
-    /// Own.
-    pub fn watch_all(&mut self, more: &NumberSet)
-        ensures more { Wakes self.old self.new }
-        ensures all { (n : ℕ) → HasPlaces (n + 1) self.old → more.now.has n ≡ true → self.new.watched.has n ≡ true }
-    {
-        let links = self.watched.len().min(self.moments.len() / 2);
-        let mut from = 0;
-        while let Some(link) = more.next(from) {
-            if link >= links {
-                return;
-            }
-            self.watch(link);
-            from = link + 1;
-        }
-    }
-
     /// The links are watched of which a side has a moment that is at most this time. Takes no memory; costs what `watch` does for each of
     /// them.
     ///

@@ -1,7 +1,7 @@
 use Rattle.std.proofs.Common.{true, false, refl, sym, subst, inl, inr}
 use Rattle.std.proofs.lemmas.Result.{err_from_is_err_and}
 use Rattle.relay_core.specs.RelayValue.{RelayValue}
-use Rattle.relay_drive.specs.Agenda.{IsKept, MayBeNamed}
+use Rattle.relay_drive.specs.Agenda.{IsKept, IsNamed}
 use Rattle.relay_drive.proofs.GoesLemmas.{Grew-none, goes_as, goes_then, goes_nowhere}
 use Rattle.relay_drive.proofs.EachLemmas.{then_none}
 use Rattle.relay_drive.proofs.AgendaLemmas.{kept-beside_wants, named-rows}
@@ -26,8 +26,9 @@ returns-then-not-ready-clause-kept g c =
 
 pub returns-then-not-ready-clause-named : goal.returns-then-not-ready-clause-named
 returns-then-not-ready-clause-named g c =
-    subst (λ (r : RelayValue). MayBeNamed c.name_wants.new.agenda c.ask_poll.new.wants r.state) (sym c.in_ok-ready.ensures.kept)
-    (named-rows c.name_wants.new.agenda c.name_wants.new.wants c.ask_poll.new.wants c.args.run.now.relay.state c.in_ok-ready.ensures.rows
+    subst (λ (r : RelayValue). IsNamed c.name_wants.new.agenda (record c.name_wants.new.naming { table = c.ask_poll.new.wants }) r.state)
+    (sym c.in_ok-ready.ensures.kept)
+    (named-rows c.name_wants.new.agenda c.name_wants.new.naming c.ask_poll.new.wants c.args.run.now.relay.state c.in_ok-ready.ensures.rows
     c.in_ok-name_wants.ensures.right)
 
 pub accept-requires : goal.accept-requires
@@ -50,7 +51,8 @@ returns-clause-went g c =
 
 pub returns-clause-named : goal.returns-clause-named
 returns-clause-named g c =
-    c.in_ok-accept.ensures.names c.ask_poll.new.wants
-    (subst (λ (r : RelayValue). MayBeNamed c.name_wants.new.agenda c.ask_poll.new.wants r.state) (sym c.in_ok-ready.ensures.kept)
-    (named-rows c.name_wants.new.agenda c.name_wants.new.wants c.ask_poll.new.wants c.args.run.now.relay.state c.in_ok-ready.ensures.rows
+    c.in_ok-accept.ensures.names (record c.name_wants.new.naming { table = c.ask_poll.new.wants })
+    (subst (λ (r : RelayValue). IsNamed c.name_wants.new.agenda (record c.name_wants.new.naming { table = c.ask_poll.new.wants }) r.state)
+    (sym c.in_ok-ready.ensures.kept)
+    (named-rows c.name_wants.new.agenda c.name_wants.new.naming c.ask_poll.new.wants c.args.run.now.relay.state c.in_ok-ready.ensures.rows
     c.in_ok-name_wants.ensures.right))

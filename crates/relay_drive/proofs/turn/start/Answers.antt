@@ -13,9 +13,6 @@ returns-in_err-clock-clause-went g c =
     (g.P.Port.told c.clock.new.port) (g.P.Port.ends c.clock.new.port)
     (goes_as (λ a q. CutStart.begin_before q) c.in_err-clock.ensures.went))
 
-pub poll-requires-clause-named : goal.poll-requires-clause-named
-poll-requires-clause-named g c = c.in_ok-clock.ensures.named c.args.wants.now c.requires.named
-
 pub returns-in_err-poll-clause-went : goal.returns-in_err-poll-clause-went
 returns-in_err-poll-clause-went g c =
     let p = err_from_is_err_and c.from_residual-in_err-poll.result c.from_residual-in_err-poll.ensures.1 in
@@ -25,7 +22,7 @@ returns-in_err-poll-clause-went g c =
 pub returns-in_err-serve-clause-went : goal.returns-in_err-serve-clause-went
 returns-in_err-serve-clause-went g c =
     let p = err_from_is_err_and c.from_residual-in_err-serve.result c.from_residual-in_err-serve.ensures.1 in
-    let list = c.poll.new.wants.list in
+    let list = c.poll.new.naming.table.list in
     rw (p.1, p.2, c.in_err-serve.ensures.cause)
     (cut_short Point.Accepted (g.P.Port.vouches c.serve.new.port) g.P.Port.none_waits (g.P.Port.told c.serve.new.port)
     (g.P.Port.ends c.serve.new.port)
@@ -34,10 +31,10 @@ returns-in_err-serve-clause-went g c =
 
 pub returns-clause-went : goal.returns-clause-went
 returns-clause-went g c =
-    let list = c.poll.new.wants.list in
+    let list = c.poll.new.naming.table.list in
     goes_as (λ a q. let t = ticked q in let m = marked_all list t.1 in (t.0, m.0, m.1))
     (goes_then c.in_ok-clock.ensures.went
     (goes_then c.in_ok-poll.ensures.went (goes_as (λ a q. and_nothing q) (rw (c.list.ensures) at c.in_ok-serve.ensures.went))))
 
 pub returns-clause-named : goal.returns-clause-named
-returns-clause-named g c = c.in_ok-serve.ensures.names c.poll.new.wants c.in_ok-poll.ensures.named
+returns-clause-named g c = c.in_ok-serve.ensures.names c.poll.new.naming c.in_ok-poll.ensures.named

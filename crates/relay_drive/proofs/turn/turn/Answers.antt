@@ -25,6 +25,9 @@ returns-in_err-start-clause-went g c =
     (λ h. (goal.Hook-dyn g (h.vtable, h.value)).planned h.value))
     c.args.seats.now.hooks.items c.args.seats.now.gone.items _ _ _ a q) c.in_err-start.ensures.went)
 
+pub start-requires-clause-stands : goal.start-requires-clause-stands
+start-requires-clause-stands g c = (c.requires.ready.trace, c.requires.ready.stands)
+
 pub dispatch-requires-clause-bare : goal.dispatch-requires-clause-bare
 dispatch-requires-clause-bare g c =
     let q = c.in_ok-start.ensures.went in
@@ -105,8 +108,8 @@ returns-in_ok-finish-in-Went-clause-ready g c = λ went.
     let end = c.in_ok-finish-in-Went.ensures in
     record {
       kept = end.kept;
-      named = end.names c.start.new.wants
-          (c.in_ok-dispatch.ensures.names (ap Ok c.in-Went.is) c.start.new.wants c.in_ok-start.ensures.named);
+      named = end.names c.start.new.naming
+          (c.in_ok-dispatch.ensures.names (ap Ok c.in-Went.is) c.start.new.naming c.in_ok-start.ensures.named);
       bare = (finish-stays _ _ end.went.added end.went.does).batch fired.does.does.over;
       trace = t ++ all.added;
       stands = turn_keeps t _ _ all.added c.requires.ready.stands all.does.0;

@@ -5,10 +5,8 @@ use Rattle.relay_sides.specs.Links as links
 use Rattle.ev_types.specs.Sides.{number}
 use Rattle.rate_group.specs.GroupValue.{GroupsValue}
 use Rattle.relay_sides.specs.Links.{Links}
-use Rattle.relay_core.specs.Timeless.{is_halted}
 use Rattle.relay_core.proofs.RelayLemmas.{still_sound, left_sound}
-use Rattle.relay_core.proofs.HaltLemmas.{halted-left}
-use Rattle.relay_core.proofs.WatchLemmas.{watching-more, grouping-left, grouping-at, numbers-differ}
+use Rattle.relay_core.proofs.WatchLemmas.{watching-more, grouping-left, grouping-at}
 use Rattle.relay_core.proofs.ctl.Ctl.leave_group.Goals as goal
 
 pub invariant_of-self : goal.invariant_of-self
@@ -21,13 +19,11 @@ invariant_of-self c =
       timed = still_sound r.settings r.time r.untimed k c.set_group.new.self.links e (λ x. record x { group = None }) h.timed (λ p. p)
           (ap (λ (z : Links). z.sides) c.set_group.ensures) (ap (λ (z : Links). z.gauges) c.set_group.ensures);
       grouped = left_sound r.given r.untimed r.groups.value c.leave.new.groups.value (number e) h.grouped c.leave.ensures;
-      watching = watching-more r.resting r.time k r.groups.value h.watching c.watch.new.self c.set_group.new.self.links
-          c.leave.new.groups.value e (record (links.side_at k e) { group = None }) (links.gauge_at k e) c.watch.ensures.more
+      watching = watching-more r.resting r.time k h.watching c.watch.new.self c.set_group.new.self.links
+          e (record (links.side_at k e) { group = None }) (links.gauge_at k e) c.watch.ensures.more
           c.watch.ensures.there (ap (λ (z : Links). z.sides) c.set_group.ensures)
           (ap (λ (z : Links). z.gauges) c.set_group.ensures ∙ sym (set-get_or k.gauges (number e) no_gauge))
-          (ap (λ (z : Links). z.opened) c.set_group.ensures)
-          (λ z other was. ap (is_halted (number z)) c.leave.ensures ∙ halted-left (number e) (number z) r.groups.value
-          (numbers-differ e z other) was);
+          (ap (λ (z : Links). z.opened) c.set_group.ensures);
       grouping = grouping-left r.grouped c.set_group.new.self.links.opened (number e) r.groups.value.members
           c.leave.new.groups.value.members (ap (λ (z : GroupsValue). z.members) c.leave.ensures)
           (grouping-at r.grouped k.opened c.set_group.new.self.links.opened r.groups.value.members

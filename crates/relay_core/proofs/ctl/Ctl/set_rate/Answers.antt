@@ -15,11 +15,11 @@ invariant_of-self c =
       timed = limited_sound r.settings r.time c.if-self.self r.turns k c.set_limit.new.self.links e c.args.cfg (λ t. (down t).1)
           (lowered r.settings r.time r.untimed c.if-self.self k (λ t. (down t).0) h.timed) c.set_limit.ensures.links;
       grouped = lowered_groups r.given r.untimed c.if-self.self r.groups.value (λ t. (down t).0) h.grouped;
-      watching = watching-more r.resting r.time k r.groups.value h.watching c.watch.new.self c.set_limit.new.self.links
-          r.groups.value e _ _ c.watch.ensures.more c.watch.ensures.there
+      watching = watching-more r.resting r.time k h.watching c.watch.new.self c.set_limit.new.self.links
+          e _ _ c.watch.ensures.more c.watch.ensures.there
           (ap (λ (z : Links). z.sides) c.set_limit.ensures.links)
           (ap (λ (z : Links). z.gauges) c.set_limit.ensures.links)
-          (ap (λ (z : Links). z.opened) c.set_limit.ensures.links) (λ z other none. none);
+          (ap (λ (z : Links). z.opened) c.set_limit.ensures.links);
       grouping = grouping-at r.grouped r.sides.links.opened c.set_limit.new.self.links.opened r.groups.value.members
           (ap (λ (z : Links). z.opened) c.set_limit.ensures.links) h.grouping;
       time = h.time;

@@ -30,11 +30,11 @@ invariant_of-self c =
           ))
           (ap (λ (z : Links). z.sides) c.set_timeouts.ensures) (ap (λ (z : Links). z.gauges) c.set_timeouts.ensures);
       grouped = search rules;
-      watching = watching-more r.resting r.time k r.groups.value h.watching c.watch.new.self c.set_timeouts.new.self.links
-          r.groups.value e _ (links.gauge_at k e) c.watch.ensures.more c.watch.ensures.there
+      watching = watching-more r.resting r.time k h.watching c.watch.new.self c.set_timeouts.new.self.links
+          e _ (links.gauge_at k e) c.watch.ensures.more c.watch.ensures.there
           (ap (λ (z : Links). z.sides) c.set_timeouts.ensures)
           (ap (λ (z : Links). z.gauges) c.set_timeouts.ensures ∙ sym (set-get_or k.gauges (number e) no_gauge))
-          (ap (λ (z : Links). z.opened) c.set_timeouts.ensures) (λ z other none. none);
+          (ap (λ (z : Links). z.opened) c.set_timeouts.ensures);
       grouping = grouping-at r.grouped r.sides.links.opened c.set_timeouts.new.self.links.opened r.groups.value.members
           (ap (λ (z : Links). z.opened) c.set_timeouts.ensures) h.grouping;
       time = h.time;

@@ -1,14 +1,13 @@
 use Rattle.std.proofs.Common.{◌∙◌, ap, sym, subst}
 use Rattle.std.specs.Prelude.{is_some}
 use Rattle.rate_group.specs.GroupValue.{GroupsValue}
-use Rattle.rate_group.specs.Steps.{share_in}
 use Rattle.ev_types.specs.Sides.{number}
 use Rattle.relay_sides.specs.Links as links
 use Rattle.relay_sides.specs.Links.{Links}
 use Rattle.relay_state.specs.Running.{gauge_after}
-use Rattle.relay_core.specs.Timeless.{leaves_some, IsGrouping}
+use Rattle.relay_core.specs.Timeless.{IsGrouping}
 use Rattle.relay_core.proofs.RelayLemmas.{gauge_sound, gauge_after-time, later_at, spent_sound}
-use Rattle.relay_core.proofs.WatchLemmas.{watching-shared, watching-spent, grouping-at}
+use Rattle.relay_core.proofs.WatchLemmas.{watching-spent, grouping-at}
 use Rattle.relay_core.proofs.ctl.Ctl.spend.Goals as goal
 
 pub invariant_of-self : goal.invariant_of-self
@@ -25,18 +24,9 @@ invariant_of-self c =
           (ap (λ (z : Links). z.sides) c.spend.ensures.links) (ap (λ (z : Links). z.gauges) c.spend.ensures.links);
       grouped = spent_sound r.given r.untimed r.groups.value c.spend_share.new.groups.value c.number.result c.args.dir
           c.args.count h.grouped c.spend_share.ensures;
-      watching = watching-shared c.watch_where.new.resting c.watch_all_where.new.resting r.grouped r.time
-          c.spend.new.self.links r.groups.value
-          c.spend_share.new.groups.value c.number.result c.args.dir c.args.count c.leaves_some-free.result
-          (watching-spent r.resting r.time k r.groups.value h.watching c.watch_where.new.resting c.spend.new.self.links e
-          c.args.dir c.args.count
+      watching = watching-spent r.resting r.time k h.watching c.watch_where.new.resting c.spend.new.self.links e c.args.dir c.args.count
           c.is_some-limited.result c.watch_where.ensures.more c.watch_where.ensures.there
-          (c.is_some-limited.ensures ∙ ap is_some c.allowance.ensures) c.spend.ensures.links)
-          (grouping-at r.grouped k.opened c.spend.new.self.links.opened r.groups.value.members
-          (ap (λ (z : Links). z.opened) c.spend.ensures.links) h.grouping)
-          c.watch_all_where.ensures.more c.watch_all_where.ensures.all c.spend_share.ensures
-          (c.leaves_some-free.ensures ∙ ap leaves_some (c.share.ensures
-          ∙ ap (λ n. share_in n c.args.dir c.spend_share.new.groups.value) (c.number-2.ensures ∙ sym c.number.ensures)));
+          (c.is_some-limited.ensures ∙ ap is_some c.allowance.ensures) c.spend.ensures.links;
       grouping = subst (λ (z : GroupsValue). IsGrouping r.grouped c.spend.new.self.links.opened z.members) (sym c.spend_share.ensures)
           (grouping-at r.grouped k.opened c.spend.new.self.links.opened r.groups.value.members
           (ap (λ (z : Links). z.opened) c.spend.ensures.links) h.grouping);

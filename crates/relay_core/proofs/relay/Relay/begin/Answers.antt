@@ -5,7 +5,6 @@ use Rattle.relay_core.specs.declared.relay.Relay.TheInside.{Inside}
 use Rattle.rate_group.specs.GroupValue.{GroupsValue}
 use Rattle.relay_core.specs.Timeless.{IsGrouping}
 use Rattle.relay_core.proofs.RelayLemmas.{refilled_sound}
-use Rattle.relay_core.proofs.WatchLemmas.{watching-refilled}
 use Rattle.relay_core.proofs.relay.Relay.begin.Goals as goal
 
 pub invariant_of-self-inside : goal.invariant_of-self-inside
@@ -16,8 +15,7 @@ invariant_of-self-inside c =
       timed = h.timed;
       grouped = refilled_sound r.given r.untimed r.groups.value c.refill.new.self.value c.turn_to-time.result h.grouped
           c.refill.ensures.value;
-      watching = watching-refilled r.resting r.time c.turn_to-time.result r.sides.links r.groups.value c.refill.new.self.value
-          c.refill.ensures.value h.watching;
+      watching = h.watching;
       grouping = subst (λ (z : GroupsValue). IsGrouping r.grouped r.sides.links.opened z.members) (sym c.refill.ensures.value) h.grouping;
       time = h.time;
       few = h.few;

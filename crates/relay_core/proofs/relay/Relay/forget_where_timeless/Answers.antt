@@ -1,10 +1,10 @@
-use Rattle.std.proofs.Common.{◌≡◌, refl, ap, sym, ◌∙◌, ◌<◌, false, subst}
+use Rattle.std.proofs.Common.{refl, ap, sym, ◌∙◌, ◌<◌, subst}
 use Rattle.ev_types.specs.declared.side.Side.TheVariants.{In}
 use Rattle.ev_types.specs.declared.side.SideId.{SideId}
-use Rattle.ev_types.specs.Sides.{number, peer}
+use Rattle.ev_types.specs.Sides.{peer}
 use Rattle.relay_model.specs.Plain.{side_at}
 use Rattle.relay_state.specs.State.{gauge_at}
-use Rattle.relay_core.specs.Timeless.{side_gains, is_halted, IsStillSide}
+use Rattle.relay_core.specs.Timeless.{side_gains, IsStillSide}
 use Rattle.relay_core.specs.RelayValue.{RelayValue}
 use Rattle.relay_core.specs.declared.relay.Relay.TheInside.{Inside}
 use Rattle.relay_core.proofs.RestLemmas.{resting_by}
@@ -21,15 +21,13 @@ invariant_of-self-inside c =
     record {
       timed = h.timed;
       grouped = h.grouped;
-      watching = watching-fewer r.resting r.time r.sides.links r.groups.value h.watching c.rest.new.self near c.gains_at-gain.result
+      watching = watching-fewer r.resting r.time r.sides.links h.watching c.rest.new.self near c.gains_at-gain.result
           c.gains_at-far_gain.result refl
           (subst (λ (z : RelayValue). c.args.link < z.state.plain.opened)
           (sym (is ∙ c.forget_members.ensures ∙ c.self.view_is)) c.requires) c.rest.ensures
-          (resting_by r h near c.gains_at-gain.result v is (c.if-is_timeless.ensures.still refl) (c.if-is_timeless.ensures.unhalted refl)
-          c.gains_at-gain.ensures)
+          (resting_by r h near c.gains_at-gain.result v is (c.if-is_timeless.ensures refl) c.gains_at-gain.ensures)
           (resting_by r h (peer near) c.gains_at-far_gain.result v is
-          (subst (IsStillSide v.state) c.peer.ensures (c.if-is_timeless-2.ensures.still refl))
-          (subst (λ e. is_halted (number e) v.state.groups ≡ false) c.peer.ensures (c.if-is_timeless-2.ensures.unhalted refl))
+          (subst (IsStillSide v.state) c.peer.ensures (c.if-is_timeless-2.ensures refl))
           (c.gains_at-far_gain.ensures ∙ ap (λ e. side_gains v.state.plain.time (side_at v.state.plain e) (gauge_at v.state e))
           c.peer-then-is_timeless-2.ensures));
       grouping = h.grouping;

@@ -24,7 +24,7 @@ invariant_of-self-inside c =
           (active_sound r.time r.untimed c.args.dir (links.side_at k e))
           (ap (λ (z : Links). z.sides) c.be_active.ensures) (ap (λ (z : Links). z.gauges) c.be_active.ensures);
       grouped = h.grouped;
-      watching = watching-changed r.resting r.time k r.groups.value h.watching c.be_active.new.self.links e
+      watching = watching-changed r.resting r.time k h.watching c.be_active.new.self.links e
           (active_at r.time c.args.dir) c.be_active.ensures (alike-active r.time c.args.dir);
       grouping = grouping-at r.grouped r.sides.links.opened c.be_active.new.self.links.opened r.groups.value.members
           (ap (λ (z : Links). z.opened) c.be_active.ensures) h.grouping;
@@ -47,11 +47,11 @@ invariant_of-self-inside-then-has_run_out c =
           (ap (λ (z : RelayValue). is_timed (side_at z.state.plain e) c.args.dir) is ∙ sym c.is_timed.ensures ∙ c.if-not-is_timed.false))
           (ap (λ (z : Links). z.sides) c.expire.ensures) (ap (λ (z : Links). z.gauges) c.expire.ensures);
       grouped = h.grouped;
-      watching = watching-more r.resting r.time k r.groups.value h.watching c.watch.new.self c.expire.new.self.links
-          r.groups.value e (expire c.args.dir (links.side_at k e)) (links.gauge_at k e) c.watch.ensures.more c.watch.ensures.there
+      watching = watching-more r.resting r.time k h.watching c.watch.new.self c.expire.new.self.links
+          e (expire c.args.dir (links.side_at k e)) (links.gauge_at k e) c.watch.ensures.more c.watch.ensures.there
           (ap (λ (z : Links). z.sides) c.expire.ensures)
           (ap (λ (z : Links). z.gauges) c.expire.ensures ∙ sym (set-get_or k.gauges (number e) no_gauge))
-          (ap (λ (z : Links). z.opened) c.expire.ensures) (λ z other none. none);
+          (ap (λ (z : Links). z.opened) c.expire.ensures);
       grouping = grouping-at r.grouped r.sides.links.opened c.expire.new.self.links.opened r.groups.value.members
           (ap (λ (z : Links). z.opened) c.expire.ensures) h.grouping;
       time = h.time;

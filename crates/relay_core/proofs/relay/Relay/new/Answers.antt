@@ -39,6 +39,7 @@ invariant_of-ctl c = record {
   };
   grouped = record {
     many = ap (λ (z : GroupsValue). length z.groups) c.in_ok-groups.ensures ∙ made-many c.args.given.groups.items;
+    few = c.requires.few;
     in_group = c.requires.in_group;
     out_group = c.requires.out_group;
     none = λ e. c.in_ok-groups.ensures ∙ ap (λ xs. new_groups (map group_given xs)) e;

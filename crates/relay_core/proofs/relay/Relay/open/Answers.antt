@@ -22,14 +22,10 @@ invariant_of-ctl c =
           (record { link = c.opened.result; side = In }) r.groups.value) c.near_side-near.ensures)
           (c.join_where-2.ensures.value ∙ ap (λ
           (n : NewSide). joined_where n.group c.peer.result c.join_where.new.groups.value) c.far_side-far.ensures);
-      watching = watching-opened r.resting c.watch.new.self r.time r.turns r.sides.links c.open.new.self.links r.groups.value
-          c.join_where.new.groups.value c.join_where-2.new.groups.value c.near_side-near.result c.far_side-far.result
-          (record { link = c.opened.result; side = In }) c.peer.result h.watching c.opened.ensures.pairs.sides c.opened.ensures.pairs.gauges
-          (search rules)
-          c.watch.ensures.more (ap c.watch.new.self.watched.has (sym c.opened.ensures.count) ∙
-          c.watch.ensures.there) c.open.ensures.links c.opened.ensures.count
-          (ap (λ (e : SideId). e.link) c.peer.ensures ∙ c.opened.ensures.count) c.join_where.ensures.value
-          c.join_where-2.ensures.value;
+      watching = watching-opened r.resting c.watch.new.self r.time r.turns r.sides.links c.open.new.self.links c.near_side-near.result
+          c.far_side-far.result h.watching c.opened.ensures.pairs.sides c.opened.ensures.pairs.gauges (search rules)
+          c.watch.ensures.more (ap c.watch.new.self.watched.has (sym c.opened.ensures.count) ∙ c.watch.ensures.there)
+          c.open.ensures.links;
       grouping = grouping-opened r.grouped c.insert.new.self r.sides.links.opened c.open.new.self.links.opened
           (record { link = c.opened.result; side = In }) c.peer.result c.near_side-near.result.group c.far_side-far.result.group
           r.groups.value

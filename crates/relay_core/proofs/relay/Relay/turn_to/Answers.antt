@@ -30,8 +30,8 @@ invariant_of-self-inside c =
         gauges = λ i d lt. let p = h.timed.gauges i d lt in omega (arith, p, later);
       };
       grouped = h.grouped;
-      watching = watching-later c.wake.new.self r.time r.sides.links r.groups.value
-          (watching-woken r.resting r.time r.sides.links r.groups.value h.watching c.wake.new.self c.wake.ensures.more) to later
+      watching = watching-later c.wake.new.self r.time r.sides.links
+          (watching-woken r.resting r.time r.sides.links h.watching c.wake.new.self c.wake.ensures.more) to later
           c.wake.ensures.none_due;
       grouping = h.grouping;
       time = (let bound = h.time in omega (arith, bound, c.max-time.ensures, c.min.ensures));

@@ -1,10 +1,8 @@
 use Rattle.std.proofs.Common.{ap, sym, subst, ◌∙◌}
 use Rattle.number_set.specs.Numbers.{NumberSetValue}
-use Rattle.ev_types.specs.Sides.{number}
 use Rattle.relay_core.specs.RelayValue.{RelayValue}
 use Rattle.relay_core.specs.Timeless.{AreTimelessBeside}
 use Rattle.relay_core.specs.declared.relay.Relay.TheInside.{Inside}
-use Rattle.relay_core.proofs.HaltLemmas.{share-some}
 use Rattle.relay_core.proofs.relay.Relay.watched.Goals as goal
 
 pub returns-clause-beside : goal.returns-clause-beside
@@ -20,5 +18,4 @@ returns-clause-beside c =
       reads = p.reads;
       writes = p.writes;
       unexpired = p.unexpired;
-      shared = λ d. share-some (number e) d r.groups.value h.grouped.shares p.unhalted;
     }))

@@ -36,7 +36,7 @@ invariant_of-self-inside c =
           (active_sound r.time r.untimed dir.Write (links.side_at k e))
           (ap (λ (z : Links). z.sides) c.took.ensures) (ap (λ (z : Links). z.gauges) c.took.ensures);
       grouped = h.grouped;
-      watching = watching-took r.resting r.time k c.took.new.self.links r.groups.value e _ h.watching c.took.ensures;
+      watching = watching-took r.resting r.time k c.took.new.self.links e _ h.watching c.took.ensures;
       grouping = grouping-at r.grouped r.sides.links.opened c.took.new.self.links.opened r.groups.value.members
           (ap (λ (z : Links). z.opened) c.took.ensures) h.grouping;
       time = h.time;

@@ -7,11 +7,11 @@ use Rattle.relay_drive.specs.Seats.{seated_sides, slots_taken, AreSeated}
 use Rattle.relay_drive.proofs.FreshSeats.{fresh-seated, taken-hooks}
 use Rattle.relay_drive.proofs.NewStands.{groups-given, new_relay_stands}
 use Rattle.relay_drive.proofs.drive.Drive.new.Given.{Over}
-use Rattle.relay_drive.proofs.drive.Drive.new.Goals.{After-new-3}
+use Rattle.relay_drive.proofs.drive.Drive.new.Goals.{After-new-4}
 use Rattle.relay_drive.proofs.drive.Drive.new.Goals as goal
 
 -- its sides with a hook are those whose slots are taken
-state-is : (g : Over) (c : After-new-3 g) →
+state-is : (g : Over) (c : After-new-4 g) →
     c.in_ok-new.field-0.state ≡ new_state (settings_given c.args.settings c.args.given (seated_sides c.args.seats.now.hooks.items))
 state-is g c =
     c.in_ok-new.ensures
