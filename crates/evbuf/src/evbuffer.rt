@@ -4,8 +4,8 @@
 // 1. Bytes come in only where the end that they come in at isn't frozen, and leave only where the front isn't.
 // 2. Each change of the bytes is told to each callback that is enabled, once, in the same call.
 // 3. A number of a callback is not used again.
-ghost use Rattle.std.specs.Prelude.{◌≡◌, ◌≤◌, ◌+◌, ◌-◌, ◌*◌, ◌^◌, ◌<◌, ◌++◌, ◌∷◌, [], length, drop, take, min, true, false, OnOk, OnErr, IfOk};
-ghost use Rattle.std.specs.Prelude.{IfSome, IfNone, None, Some, option_map};
+ghost use Rattle.std.specs.Prelude.{◌≡◌, ◌≤◌, ◌+◌, ◌-◌, ◌*◌, ◌^◌, ◌<◌, ◌++◌, ◌∷◌, [], length, drop, take, min, true, false, OnOk};
+ghost use Rattle.std.specs.Prelude.{OnErr, IfOk, IfSome, IfNone, None, Some, option_map};
 ghost use Rattle.evbuf_chain.specs.Answers.{AnswersOr, fault_of};
 ghost use Rattle.evbuf_chain.specs.Buffered.{joined, PullupAnswer, most_spare};
 ghost use Rattle.evbuf_chain.specs.Mark.{AreWhole};

@@ -1,6 +1,6 @@
 -- What contracts see of a chain.
-use Rattle.std.specs.Prelude.{◌≡◌, ℕ, ◌+◌, ◌*◌, ◌^◌, ◌≤◌, ◌<◌, ◌==◌, max, nat_lt, if◌then◌else◌, Option, Some, None, Result, Ok, Err, List, ◌++◌, length}
-use Rattle.std.specs.Prelude.{take, drop, flat_map}
+use Rattle.std.specs.Prelude.{◌≡◌, ℕ, ◌+◌, ◌*◌, ◌^◌, ◌≤◌, ◌<◌, ◌==◌, max, nat_lt, if◌then◌else◌, Option, Some, None, Result, Ok, Err}
+use Rattle.std.specs.Prelude.{List, ◌++◌, length, take, drop, flat_map}
 use Rattle.std.specs.Borrow.{Bor}
 use Rattle.evbuf_chain.specs.Mark.{Marks, unmarked, ended_tickets}
 use Rattle.evbuf_chain.specs.declared.fault.ChainFault.{ChainFault}

@@ -4,7 +4,8 @@
 // 1. Each byte has a mark or none. A reference's marks stand in a row and run down to its last byte.
 // 2. Bytes come in behind or in front, and leave at the front alone.
 // 3. A ticket is released when the last mark of its reference goes, or as it comes in where the reference has no bytes.
-ghost use Rattle.std.specs.Prelude.{◌≡◌, ◌≤◌, ◌<◌, ◌+◌, ◌-◌, ◌*◌, ◌^◌, ◌++◌, ◌∷◌, ◌==◌, ◌↔◌, [], length, drop, take, min, nat_lt, OnOk, OnErr};
+ghost use Rattle.std.specs.Prelude.{◌≡◌, ◌≤◌, ◌<◌, ◌+◌, ◌-◌, ◌*◌, ◌^◌, ◌++◌, ◌∷◌, ◌==◌, ◌↔◌, [], length, drop, take, min, nat_lt};
+ghost use Rattle.std.specs.Prelude.{OnOk, OnErr};
 ghost use Rattle.std.specs.Prelude.{IfOk, IfSome, IfNone, None, if◌then◌else◌};
 ghost use Rattle.evbuf_chain.specs.Answers.{AnswersOr, fault_of};
 ghost use Rattle.evbuf_chain.specs.Mark.{unmarked, reference_marks, ended_tickets, uncut_marks, AreWhole};
@@ -264,7 +265,8 @@ impl Chain {
 
     /// Moves the first n bytes, or all where there are fewer, to the end of another chain, and answers how many. Where a
     /// reference is cut, its front part is copied and the reference stays with the rest. Where the other chain's length
-    /// would not fit a usize it is refused as Spent, before want of memory. Takes memory where there is less room; linear in what it moves, over many calls.
+    /// would not fit a usize it is refused as Spent, before want of memory. Takes memory where there is less room; linear
+    /// in what it moves, over many calls.
     ///
     /// Libevent: event2/buffer.h, `evbuffer_remove_buffer`; "Evbuffers".
     pub fn split_front(&mut self, n: usize, to: &mut Chain) -> Result<usize, ChainFault>
