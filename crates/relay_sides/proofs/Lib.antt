@@ -17,5 +17,6 @@ pub mod SettledLemmas
 pub mod ReaderLemmas
 pub mod OpenLemmas
 pub mod RoomLemmas
+pub mod GivenUpLemmas
 pub mod ServeLemmas
 pub mod LimitLemmas

@@ -1,5 +1,5 @@
 -- Changes of which nothing is seen: room is made in the bufferevents of a side, or is given up.
-use Rattle.std.proofs.Common.{◌≡◌, ◌≢◌, ℕ, ◌+◌, ◌*◌, ◌<◌, ◌≤◌, Bool, true, false, ◌==◌, if◌then◌else◌, List, length, slice_index_or}
+use Rattle.std.proofs.Common.{◌≡◌, ℕ, ◌+◌, ◌*◌, ◌<◌, ◌≤◌, Bool, true, false, ◌==◌, if◌then◌else◌, List, length, slice_index_or}
 use Rattle.std.proofs.Common.{slice_set, Some, refl, sym, ◌∙◌, ap, subst, arith, eqb-true}
 use Rattle.std.proofs.lemmas.Bool.{eqb-false}
 use Rattle.std.proofs.lemmas.List.{length-set, nil_from_length, get_or-set_other}
@@ -21,7 +21,6 @@ use Rattle.bev_world.specs.declared.slot.Kind.TheVariants.{Filter}
 use Rattle.relay_sides.specs.Bevs.{Bevs, bevs_at, lower_of, upper_of, twin}
 use Rattle.relay_sides.specs.Table.{tabulate}
 use Rattle.relay_sides.specs.Links as links
-use Rattle.relay_sides.specs.Links.{Links}
 use Rattle.relay_sides.specs.Rooms.{output_room, raw_input_room, input_room, raw_output_room, HasInputRoom, HasOutputRoom}
 use Rattle.relay_sides.specs.SideView.{state_at, plain_at, flow_at, lane_at, plain_side}
 use Rattle.relay_sides.specs.SidesView.{links_of, rooms_of, AreSides, IsCounted}
@@ -251,74 +250,6 @@ pub lower_leaves_upper : (w w2 : WorldValue) (n at : ℕ) (b : BevValue) → at 
 lower_leaves_upper w w2 n at b a is m =
     ap (λ (z : WorldValue). (bevs_at z.slots m).upper) is
     ∙ get_or-set_other w.slots at (upper_of m) (let s = slot_at w at in record s { bev = b }) no_slot (λ e. absurd (omega (arith, e, a)))
-
--- both bufferevents of two sides give their room up
-module _ (w0 w1 w2 w3 w4 : WorldValue) (n t l u u2 l2 : ℕ) (la : l ≡ lower_of n) (ua : u ≡ upper_of n) (ub : u2 ≡ upper_of t)
-    (lb : l2 ≡ lower_of t) (nt : upper_of n < length w0.slots) (tt : upper_of t < length w0.slots)
-    (one : w1 ≡ roomless w0 l) (two : w2 ≡ roomless w1 u) (three : w3 ≡ roomless w2 u2) (four : w4 ≡ roomless w3 l2) where
-  q1 : Quiet w0.slots w1.slots
-  q1 = lower_given_up w0 w1 n l la (omega (arith, nt)) one
-
-  q2 : Quiet w1.slots w2.slots
-  q2 = upper_given_up w1 w2 n u ua (omega (arith, nt, q1.count)) two
-
-  q3 : Quiet w2.slots w3.slots
-  q3 = upper_given_up w2 w3 t u2 ub (omega (arith, tt, q1.count, q2.count)) three
-
-  in3 : lower_of t < length w3.slots
-  in3 = omega (arith, tt, q1.count, q2.count, q3.count)
-
-  q4 : Quiet w3.slots w4.slots
-  q4 = lower_given_up w3 w4 t l2 lb in3 four
-
-  pub gave_up : Quiet w0.slots w4.slots
-  gave_up = then_quiet w0.slots w1.slots w4.slots q1 (then_quiet w1.slots w2.slots w4.slots q2 (then_quiet w2.slots w3.slots w4.slots q3 q4))
-
-  pub gave_input_up : n ≢ t → length (bevs_at w4.slots n).upper.bev.input.bytes ≡ 0 → (bevs_at w4.slots n).upper.bev.input.spare ≡ 0
-  gave_input_up apart =
-      let s4 = slot_at w3 (lower_of t) in
-      let s3 = slot_at w2 (upper_of t) in
-      let s2 = slot_at w1 (upper_of n) in
-      let p4 = ap (λ (z : WorldValue). (bevs_at z.slots n).upper) (four ∙ ap (roomless w3) lb)
-      ∙ ap (λ (z : Bevs). z.upper) (set_lower-other w3.slots t (record s4 { bev = given_up s4.bev; room = 0 }) n apart) in
-      let p3 = ap (λ (z : WorldValue). (bevs_at z.slots n).upper) (three ∙ ap (roomless w2) ub)
-      ∙ ap (λ (z : Bevs). z.upper) (set_upper-other w2.slots t (record s3 { bev = given_up s3.bev; room = 0 }) n apart) in
-      let p2 = ap (λ (z : WorldValue). (bevs_at z.slots n).upper) (two ∙ ap (roomless w1) ua)
-      ∙ ap (λ (z : Bevs). z.upper) (set_upper-same w1.slots n (record s2 { bev = given_up s2.bev; room = 0 }) (omega (arith, nt, q1.count))) in
-      subst (λ (z : Slot). length z.bev.input.bytes ≡ 0 → z.bev.input.spare ≡ 0) (sym (p4 ∙ p3 ∙ p2)) (without-spare s2.bev.input)
-
-  pub gave_raw_input_up : n ≢ t → length (bevs_at w4.slots n).lower.bev.input.bytes ≡ 0 → (bevs_at w4.slots n).lower.bev.input.spare ≡ 0
-  gave_raw_input_up apart =
-      let s4 = slot_at w3 (lower_of t) in
-      let s3 = slot_at w2 (upper_of t) in
-      let s2 = slot_at w1 (upper_of n) in
-      let s1 = slot_at w0 (lower_of n) in
-      let p4 = ap (λ (z : WorldValue). (bevs_at z.slots n).lower) (four ∙ ap (roomless w3) lb)
-      ∙ ap (λ (z : Bevs). z.lower) (set_lower-other w3.slots t (record s4 { bev = given_up s4.bev; room = 0 }) n apart) in
-      let p3 = ap (λ (z : WorldValue). (bevs_at z.slots n).lower) (three ∙ ap (roomless w2) ub)
-      ∙ ap (λ (z : Bevs). z.lower) (set_upper-other w2.slots t (record s3 { bev = given_up s3.bev; room = 0 }) n apart) in
-      let p2 = ap (λ (z : WorldValue). (bevs_at z.slots n).lower) (two ∙ ap (roomless w1) ua)
-      ∙ ap (λ (z : Bevs). z.lower) (set_upper-same w1.slots n (record s2 { bev = given_up s2.bev; room = 0 }) (omega (arith, nt, q1.count))) in
-      let p1 = ap (λ (z : WorldValue). (bevs_at z.slots n).lower) (one ∙ ap (roomless w0) la)
-      ∙ ap (λ (z : Bevs). z.lower) (set_lower-same w0.slots n (record s1 { bev = given_up s1.bev; room = 0 }) (omega (arith, nt))) in
-      subst (λ (z : Slot). length z.bev.input.bytes ≡ 0 → z.bev.input.spare ≡ 0) (sym (p4 ∙ p3 ∙ p2 ∙ p1)) (without-spare s1.bev.input)
-
-  pub gave_output_up : length (bevs_at w4.slots t).upper.bev.output.bytes ≡ 0 → (bevs_at w4.slots t).upper.bev.output.spare ≡ 0
-  gave_output_up =
-      let s4 = slot_at w3 (lower_of t) in
-      let s3 = slot_at w2 (upper_of t) in
-      let p4 = ap (λ (z : WorldValue). (bevs_at z.slots t).upper) (four ∙ ap (roomless w3) lb)
-      ∙ ap (λ (z : Bevs). z.upper) (set_lower-same w3.slots t (record s4 { bev = given_up s4.bev; room = 0 }) in3) in
-      let p3 = ap (λ (z : WorldValue). (bevs_at z.slots t).upper) (three ∙ ap (roomless w2) ub)
-      ∙ ap (λ (z : Bevs). z.upper) (set_upper-same w2.slots t (record s3 { bev = given_up s3.bev; room = 0 }) (omega (arith, tt, q1.count, q2.count))) in
-      subst (λ (z : Slot). length z.bev.output.bytes ≡ 0 → z.bev.output.spare ≡ 0) (sym (p4 ∙ p3)) (without-spare s3.bev.output)
-
-  pub gave_raw_output_up : length (bevs_at w4.slots t).lower.bev.output.bytes ≡ 0 → (bevs_at w4.slots t).lower.bev.output.spare ≡ 0
-  gave_raw_output_up =
-      let s4 = slot_at w3 (lower_of t) in
-      let p4 = ap (λ (z : WorldValue). (bevs_at z.slots t).lower) (four ∙ ap (roomless w3) lb)
-      ∙ ap (λ (z : Bevs). z.lower) (set_lower-same w3.slots t (record s4 { bev = given_up s4.bev; room = 0 }) in3) in
-      subst (λ (z : Slot). length z.bev.output.bytes ≡ 0 → z.bev.output.spare ≡ 0) (sym p4) (without-spare s4.bev.output)
 
 -- room for a read and for the step over it
 pub read_step_room : (u : Slot) (b : Bevs) (count room limit beside made made2 : ℕ) → u ≡ b.upper →

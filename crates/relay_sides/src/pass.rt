@@ -3,6 +3,7 @@
 ghost use Rattle.std.specs.Prelude.{◌≡◌, ◌≢◌, ◌≤◌, ◌<◌, ◌+◌, ◌==◌, ◌&&◌, ◌||◌, length, OnOk, IfOk, MatchResult, IsTrue, ◌↔◌, is_some, true};
 ghost use Rattle.std.specs.Prelude.{false, ◌/◌, nat_le, if◌then◌else◌};
 ghost use Rattle.filter_model.specs.Filter.{or_else};
+ghost use Rattle.ev_types.specs.Sides.{peer};
 ghost use Rattle.relay_state.specs.Passage.{hold_part, read_part, move_part, write_part, write_step, written_by, has_moved_all, Passed};
 ghost use Rattle.relay_state.specs.Passage.{SomeRounds};
 ghost use Rattle.relay_sides.specs.Links.{lane_at, flow_at, moved, passage_at, with_passage, IsTold, round_from, PassedFrom, PartlyPassed};
@@ -385,11 +386,12 @@ impl Sides {
         }
     }
 
-    /// Gives up the room of each of the four buffers that has no byte.
+    /// Gives up the room of each of the link's eight buffers that has no byte.
     fn give_up_rooms(&mut self, from: SideId)
         requires { from.link < self.old.links.opened }
         ensures links { self.new.links ≡ self.old.links }
         ensures rooms { HasNoIdleRoom self.new.links self.new.rooms from }
+        ensures back { HasNoIdleRoom self.new.links self.new.rooms (peer from) }
     {
         self.readable = 0;
         let to = from.peer();
@@ -439,7 +441,7 @@ impl Sides {
     /// Passes the direction that begins at the side: rounds until one changes nothing, with this hold mark where the side that it ends
     /// at has none. It answers whether anything changed; where nothing did, a round changes nothing either until another call does.
     /// Takes memory for what a round may make; want of it comes between two rounds. Linear in the bytes that wait in the direction;
-    /// constant where none does. Where nothing changed, no buffer of the direction that has no byte holds memory.
+    /// constant where none does. Where nothing changed, no buffer of the link that has no byte holds memory, in either direction.
     ///
     /// Own.
     pub fn pass(&mut self, from: SideId, hold: u64) -> Result<bool, NoMemory>
@@ -451,6 +453,7 @@ impl Sides {
             × (round_from hold self.old.links from (passage_at self.old.links from) ≡ passage_at self.old.links from) }
         ensures apart { result ≡ Ok true → self.new.links ≢ self.old.links }
         ensures rooms { result ≡ Ok false → HasNoIdleRoom self.new.links self.new.rooms from }
+        ensures back { result ≡ Ok false → HasNoIdleRoom self.new.links self.new.rooms (peer from) }
     {
         let round = self.round_rules(from, hold);
         let changed = self.make_rounds(from, round)?;
