@@ -10,7 +10,7 @@ use Rattle.min_timer.specs.Handles.{TimerCall, next_handle, after, after_all, re
 use Rattle.min_timer.specs.declared.key.TimerKey.{TimerKey}
 use Rattle.min_timer.specs.declared.timers.Timer.{Timer}
 use Rattle.min_timer.proofs.OrderLemmas.{All-with_timer}
-use Rattle.min_timer.proofs.OrderLemmas.{stamp_of_handle}
+use Rattle.min_timer.proofs.PlaceLemmas.{stamp_of_handle}
 
 -- nothing is found exactly where no element passes
 find-none : {X : Type 0} (p : X → Bool) (xs : List X) → All (λ x. p x ≡ false) xs → find p xs ≡ None

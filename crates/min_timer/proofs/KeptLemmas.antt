@@ -1,113 +1,78 @@
 -- What the timers keep, after each call that changes them.
-use Rattle.std.proofs.Common.{◌≡◌, ◌∙◌, ◌⊎◌, inl, inr, refl, sym, ap, subst, ℕ, ◌+◌, ◌≤◌, List, length, get_or, arith, true, false}
-use Rattle.std.proofs.Common.{Option, Some, None, IsSome, Bool, ◌*◌, ◌++◌, take, drop}
-use Rattle.std.proofs.lemmas.List.{take_all, drop_all, append-nil}
-use Rattle.std.proofs.lemmas.Bool.{cases_eq, false≢true}
-use Rattle.std.proofs.lemmas.Bool.Decides.{nat_tests}
-use Rattle.std.proofs.lemmas.Option.{none-some, same_Some}
-use Rattle.slab.specs.Slab.{Slab, get, Updates}
-use Rattle.min_timer.specs.Order.{sorted, sooner, first_at, IsTree, IsKept}
-use Rattle.min_timer.specs.Queue.{is_timer_of, timer_of}
+use Rattle.std.proofs.Common.{◌≡◌, ◌∙◌, sym, ap, ℕ, ◌+◌, ◌<◌, ◌≤◌, true, false, not, List, ◌∷◌, length, get_or, arith, subst, Option, Some}
+use Rattle.std.proofs.Common.{None, OnSome, count_by, is_some}
+use Rattle.std.proofs.lemmas.Bool.{and_from, eq-eqb, not-true}
+use Rattle.std.proofs.lemmas.List.Elements.{All-weaker, All-filter, All-tail, filter_passes}
+use Rattle.std.proofs.lemmas.List.Kept.{AllPairs-filter}
+use Rattle.slab.specs.Slab.{Slab, get, slab_len, Updates}
+use Rattle.min_timer.specs.Order.{moment_of, IsEarlier, IsInSlot, IsKept}
+use Rattle.min_timer.specs.Queue.{is_timer_of, without, with_timer}
 use Rattle.min_timer.specs.declared.key.TimerKey.{TimerKey}
 use Rattle.min_timer.specs.declared.timers.Timer.{Timer}
-use Rattle.min_timer.specs.contracts.key.TimerKeyPartialEq.TheImpl as key_partial_eq
-use Rattle.min_timer.proofs.SlotLemmas.{held-of}
-use Rattle.min_timer.proofs.TreeLemmas.{tree_same}
+use Rattle.min_timer.specs.declared.moment.Moment.{Moment}
+use Rattle.min_timer.proofs.OrderLemmas.{All-with_timer, in_order-with_timer, length-with_timer, in_slots-with_timer, rest_in_order}
+use Rattle.min_timer.proofs.PlaceLemmas.{same_slot_same_moment, slot_of_handle, stamp_of_handle, in_slots-rest, length-without}
 
--- how two handles are compared by `==`
-abbrev pub key_eq : TimerKey → TimerKey → Bool
-key_eq = (key_partial_eq.ghosts).eq
+-- what holds where there is a value holds where there is this one
+at_some : {X : Type 0} {P : Type 0} (o : Option X) (x : X) → o ≡ Some x → OnSome o P → P
+at_some {X} {P} o x e h = let there : OnSome (Some x) P = subst (λ v. OnSome v P) e h in there
 
--- a timer is of the handle where its own is equal to it
-pub same_handle : (t : Timer) (handle : TimerKey) → key_eq t.handle handle ≡ true → is_timer_of handle t ≡ true
-same_handle t handle h = grind (arith, nat_tests)
-
-pub other_handle : (t : Timer) (handle : TimerKey) → key_eq t.handle handle ≡ false → is_timer_of handle t ≡ false
-other_handle t handle h = grind (arith, nat_tests)
-
--- there is a value
-pub some_is : {X : Type 0} (o : Option X) → IsSome o → (x : X) × (o ≡ Some x)
-some_is None h = absurd (false≢true h)
-some_is (Some x) h = (x, refl)
-
--- a timer that waits under a handle is in the handle's slot
-pub waiting : (slots : Slab Timer) (fs : List (Option Timer)) (last : ℕ) (handle : TimerKey) → IsKept slots fs last
-    → IsSome (timer_of handle (sorted slots.slots))
-    → (t : Timer) × (get slots handle.slot ≡ Some t) × (is_timer_of handle t ≡ true)
-waiting slots fs last handle kept h =
-    let there = some_is (timer_of handle (sorted slots.slots)) h in
-    let parts = held-of slots handle there.0 kept.own_slot there.1 in
-    (there.0, parts.0, parts.1)
-
--- places that were all written again are the new ones
-pub rewritten : (n : ℕ) (ws xs : List (Option Timer)) → n ≡ length xs → length ws ≡ length xs
-    → take n (ws ++ drop (length ws) xs) ≡ ws
-rewritten n ws xs count same =
-    ap (λ rest. take n (ws ++ rest)) (drop_all (length ws) xs (omega (arith, same))) ∙ ap (take n) (append-nil ws)
-    ∙ take_all n ws (omega (arith, count, same))
-
--- the same slots and places that read the same
-pub kept-same : (slots roomy : Slab Timer) (fs more : List (Option Timer)) (last : ℕ) → roomy.slots ≡ slots.slots
-    → ((k : ℕ) → first_at more k ≡ first_at fs k) → IsKept slots fs last → IsKept roomy more last
-kept-same slots roomy fs more last room same kept =
-    let is : (k : ℕ) → get roomy k ≡ get slots k = λ k. ap (λ s. get_or s k None) room in
+-- with a timer more, in a fresh slot and with the next stamp
+pub kept-with_timer : (order : List Timer) (slots roomy new : Slab Moment) (last : ℕ) (t : Timer) → IsKept order slots last
+    → roomy ≡ record slots { capacity = roomy.capacity } → t.handle.stamp ≡ last + 1 → get roomy t.handle.slot ≡ None
+    → Updates roomy new t.handle.slot (Some (moment_of t)) → slab_len new ≡ slab_len roomy + 1 → IsKept (with_timer t order) new
+    t.handle.stamp
+kept-with_timer order slots roomy new last t kept room next vacant updates one_more =
+    let same : roomy.slots ≡ slots.slots = ap (λ s. s.slots) room in
+    let count : slab_len roomy ≡ slab_len slots = ap (count_by is_some) same in
     record {
-      own_slot = λ k t h. kept.own_slot k t (sym (is k) ∙ h);
-      numbered = λ k t h. kept.numbered k t (sym (is k) ∙ h);
-      apart = λ j k s t hj hk e. kept.apart j k s t (sym (is j) ∙ hj) (sym (is k) ∙ hk) e;
-      tree = λ k. tree_same slots fs more same kept.tree k ∙ ap (λ o. below o k) (sym (is k));
+      in_order = in_order-with_timer t order kept.in_order
+          (All-weaker (λ x. x.handle.stamp ≤ last) (λ x. x.handle.stamp < t.handle.stamp) (λ x h. omega arith) order kept.numbered);
+      in_slots = in_slots-with_timer roomy new t order vacant updates
+          (All-weaker (IsInSlot slots) (IsInSlot roomy) (λ x h. rw same h) order kept.in_slots);
+      slot_count = omega (arith, length-with_timer t order, kept.slot_count);
+      numbered = All-with_timer (λ x. x.handle.stamp ≤ t.handle.stamp) t order (omega arith)
+          (All-weaker (λ x. x.handle.stamp ≤ last) (λ x. x.handle.stamp ≤ t.handle.stamp) (λ x h. omega arith) order kept.numbered);
     }
-  where
-    below : Option Timer → ℕ → Option Timer
-    below o k = sooner (sooner o (first_at more (2 * k + 1))) (first_at more (2 * k + 2))
 
--- a timer more, in an empty slot and with the next stamp
-pub kept-added : (slots new : Slab Timer) (fs after : List (Option Timer)) (last k : ℕ) (t : Timer) → IsKept slots fs last
-    → t.handle.slot ≡ k → t.handle.stamp ≡ last + 1 → Updates slots new k (Some t) → IsTree new after → IsKept new after t.handle.stamp
-kept-added slots new fs after last k t kept own next updates tree = record {
-  own_slot = λ j u h. elim (is_new j u h) [
-    | inl here ↦ subst (λ v. v.handle.slot ≡ j) here.1 (own ∙ sym here.0)
-    | inr was ↦ kept.own_slot j u was
-  ];
-  numbered = λ j u h. elim (is_new j u h) [
-    | inl here ↦ subst (λ v. v.handle.stamp ≤ t.handle.stamp) here.1 (omega arith)
-    | inr was ↦ (let low = kept.numbered j u was in omega (arith, low, next))
-  ];
-  apart = λ i j u v hu hv same. elim (is_new i u hu) [
-    | inl first ↦ elim (is_new j v hv) [
-      | inl second ↦ first.0 ∙ sym second.0
-      | inr was ↦ (let low = kept.numbered j v was in
-          let e : t.handle.stamp ≡ u.handle.stamp = ap (λ w. w.handle.stamp) first.1 in
-          absurd (omega (arith, low, next, e, same)))
-    ]
-    | inr was ↦ elim (is_new j v hv) [
-      | inl second ↦ (let low = kept.numbered i u was in
-          let e : t.handle.stamp ≡ v.handle.stamp = ap (λ w. w.handle.stamp) second.1 in
-          absurd (omega (arith, low, next, e, same)))
-      | inr too ↦ kept.apart i j u v was too same
-    ]
-  ];
-  tree = tree;
-}
-  where
-    is_new : (j : ℕ) (u : Timer) → get new j ≡ Some u → ((j ≡ k) × (t ≡ u)) ⊎ (get slots j ≡ Some u)
-    is_new j u h = elim (cases_eq j k) [
-      | inl here ↦ inl (here, same_Some t u (sym updates.changed ∙ ap (get new) (sym here) ∙ h))
-      | inr other ↦ inr (sym (updates.others j other) ∙ h)
-    ]
+-- without the first timer
+pub kept-rest : (x : Timer) (rest : List Timer) (slots new : Slab Moment) (last : ℕ) (freed : Option Moment) → IsKept (x ∷ rest) slots last
+    → Updates slots new x.handle.slot None → freed ≡ get slots x.handle.slot → OnSome freed (slab_len new + 1 ≡ slab_len slots) →
+    IsKept rest new last
+kept-rest x rest slots new last freed kept updates was len =
+    let one_less : slab_len new + 1 ≡ slab_len slots = at_some freed (moment_of x) (was ∙ kept.in_slots 0 x (omega arith)) len in
+    record {
+      in_order = rest_in_order x rest kept.in_order;
+      in_slots = in_slots-rest slots new x rest kept.in_order kept.in_slots updates;
+      slot_count = omega (arith, kept.slot_count);
+      numbered = All-tail (λ y. y.handle.stamp ≤ last) x rest kept.numbered;
+    }
 
--- a slot that was emptied
-pub kept-emptied : (slots new : Slab Timer) (fs after : List (Option Timer)) (last k : ℕ) → IsKept slots fs last
-    → Updates slots new k None → IsTree new after → IsKept new after last
-kept-emptied slots new fs after last k kept updates tree = record {
-  own_slot = λ j u h. kept.own_slot j u (was j u h);
-  numbered = λ j u h. kept.numbered j u (was j u h);
-  apart = λ i j u v hu hv same. kept.apart i j u v (was i u hu) (was j v hv) same;
-  tree = tree;
-}
-  where
-    was : (j : ℕ) (u : Timer) → get new j ≡ Some u → get slots j ≡ Some u
-    was j u h = elim (cases_eq j k) [
-      | inl here ↦ absurd (none-some u (sym updates.changed ∙ ap (get new) (sym here) ∙ h))
-      | inr other ↦ sym (updates.others j other) ∙ h
-    ]
+-- without the timer of a handle
+pub kept-without : (handle : TimerKey) (order : List Timer) (slots new : Slab Moment) (last i : ℕ) (d : Timer) → IsKept order slots last
+    → i < length order → is_timer_of handle (get_or order i d) ≡ true
+    → Updates slots new handle.slot None → (freed : Option Moment) → freed ≡ get slots handle.slot → OnSome freed
+    (slab_len new + 1 ≡ slab_len slots)
+    → IsKept (without handle order) new last
+kept-without handle order slots new last i d kept within here updates freed was len =
+    let held_here : get slots handle.slot ≡ Some (moment_of (get_or order i d)) = ap (get slots)
+    (sym (slot_of_handle handle (get_or order i d) here)) ∙ kept.in_slots i d within in
+    let one_less : slab_len new + 1 ≡ slab_len slots = at_some freed (moment_of (get_or order i d)) (was ∙ held_here) len in
+    let others = filter_passes (λ x. not (is_timer_of handle x)) order in
+    let held = All-filter (λ x. not (is_timer_of handle x)) (IsInSlot slots) order kept.in_slots in
+    record {
+      in_order = AllPairs-filter IsEarlier (λ x. not (is_timer_of handle x)) order kept.in_order;
+      in_slots = λ k e h.
+          let x = get_or (without handle order) k e in
+          updates.others x.handle.slot (λ same.
+          let moments : moment_of x ≡ moment_of (get_or order i d) = same_slot_same_moment slots x (get_or order i d) (held k e h)
+          (kept.in_slots i d within) (same ∙ sym (slot_of_handle handle (get_or order i d) here)) in
+          let stamps : x.handle.stamp ≡ handle.stamp = ap (λ m. m.stamp) moments ∙ stamp_of_handle handle (get_or order i d) here in
+          let yes : is_timer_of handle x ≡ true = and_from _ _ (eq-eqb x.handle.slot handle.slot same)
+          (eq-eqb x.handle.stamp handle.stamp stamps) in
+          let no : is_timer_of handle x ≡ false = not-true (is_timer_of handle x) (others k e h) in
+          cc)
+          ∙ held k e h;
+      slot_count = omega (arith, kept.slot_count, length-without handle slots order i d kept.in_order kept.in_slots within here);
+      numbered = All-filter (λ x. not (is_timer_of handle x)) (λ x. x.handle.stamp ≤ last) order kept.numbered;
+    }

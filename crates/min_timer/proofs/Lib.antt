@@ -1,6 +1,5 @@
-pub mod OrderLemmas
-pub mod HandleLemmas
-pub mod SlotLemmas
-pub mod TreeLemmas
-pub mod DueLemmas
 pub mod KeptLemmas
+pub mod OrderLemmas
+pub mod PlaceLemmas
+pub mod HandleLemmas
+pub mod TreeLemmas

@@ -1,199 +1,162 @@
--- What stands at the top of the tree, and what the tree is after a slot changed, a place was written or places were added.
-use Rattle.std.proofs.Common.{◌≡◌, ◌≢◌, ◌∙◌, ◌⊎◌, inl, inr, refl, sym, ap, ap₂, subst, ℕ, zero, suc, ◌+◌, ◌-◌, ◌*◌, ◌/◌, ◌<◌, ◌≤◌}
-use Rattle.std.proofs.Common.{List, [], ◌∷◌, length, set, Option, Some, None, arith, true, false, Bool}
-use Rattle.std.specs.Bool.{⊤}
-use Rattle.std.specs.Option.{option_eq}
-use Rattle.std.proofs.lemmas.Bool.{cases_eq, cases_lt, cond_both, false≢true}
+-- The timers of a tree: what an entry that comes in or goes out makes of them, and where the timer of a handle stands.
+use Rattle.std.proofs.Common.{◌≡◌, ◌∙◌, sym, ap, refl, subst, ℕ, zero, suc, ◌<◌, Bool, true, false, not, cond, nat_lt, List, [], ◌∷◌, arith}
+use Rattle.std.proofs.Common.{Option, Some, None, All, get_or, slice_get, length}
+use Rattle.std.proofs.Common.{Ordering, Less, Greater}
+use Rattle.std.specs.Ordering.{match_ordering}
+use Rattle.std.specs.Map.{lookup, remove_entry}
+use Rattle.std.specs.BTreeMap.{insert_entry, is_at}
+use Rattle.std.specs.List.{AllPairs, find}
+use Rattle.std.proofs.lemmas.Bool.{false_from_ne_true}
 use Rattle.std.proofs.lemmas.Bool.Decides.{nat_tests}
-use Rattle.std.proofs.lemmas.List.{get_or_past, get_or-set_same, get_or-set_other}
-use Rattle.std.proofs.lemmas.Option.{none-some}
+use Rattle.std.proofs.lemmas.List.Elements.{All-head, All-tail}
 use Rattle.slab.specs.Slab.{Slab, get}
-use Rattle.min_timer.specs.Order.{is_before, sorted, first_timer, sooner, first_at, first_below, IsTree}
+use Rattle.min_timer.specs.Order.{moment_of, IsEarlier, IsInSlot, timer_at, timers_at}
+use Rattle.min_timer.specs.Queue.{is_timer_of, timer_of, without, with_timer, first_deadline}
+use Rattle.min_timer.specs.declared.key.TimerKey.{TimerKey}
 use Rattle.min_timer.specs.declared.timers.Timer.{Timer}
-use Rattle.min_timer.specs.contracts.timers.TimerPartialEq.TheImpl as timer_partial_eq
-use Rattle.min_timer.proofs.OrderLemmas.{In, first-is}
-use Rattle.min_timer.proofs.SlotLemmas.{Apart, sorted-in, sorted-has, sorted-ordered}
+use Rattle.min_timer.specs.declared.moment.Moment.{Moment}
+use Rattle.min_timer.specs.declared.moment.Seat.{Seat}
+use Rattle.min_timer.specs.contracts.moment.MomentOrd.TheImpl as moment_ord
+use Rattle.min_timer.proofs.OrderLemmas.{before_differs, first_is_earlier, rest_in_order}
+use Rattle.min_timer.proofs.PlaceLemmas.{slot_of_handle, kept_all, find-none}
 
--- the second does not come before the first; none comes last
-abbrev pub Leads : Option Timer → Option Timer → Type 0
-Leads a None = ⊤
-Leads None (Some b) = ⊥
-Leads (Some a) (Some b) = is_before b a ≡ false
+-- how the tree compares two moments
+abbrev pub moment_cmp : Moment → Moment → Ordering
+moment_cmp = (moment_ord.ghosts).cmp
 
-itself : (a : Timer) → is_before a a ≡ false
-itself a = grind (arith, nat_tests)
+-- only one moment is at a moment
+pub at_moment : (m k : Moment) → is_at (moment_cmp m) k ≡ true → k ≡ m
+at_moment m k h = grind (arith, nat_tests)
 
-in_turn : (a b c : Timer) → is_before b a ≡ false → is_before c b ≡ false → is_before c a ≡ false
-in_turn a b c p q = grind (arith, nat_tests)
+pub not_at_moment : (m k : Moment) → is_at (moment_cmp m) k ≡ false → k ≡ m → ⊥
+not_at_moment m k h e = grind (arith, nat_tests)
 
-turned : (a b : Timer) → is_before a b ≡ true → is_before b a ≡ false
-turned a b p = grind (arith, nat_tests)
+-- a moment with a higher stamp than another is before it exactly where its deadline is less
+newest_compares : (k e : Moment) → e.stamp < k.stamp → moment_cmp k e ≡ cond (nat_lt k.deadline e.deadline) Less Greater
+newest_compares k e h = grind (arith, nat_tests)
 
-pub leads_itself : (a : Option Timer) → Leads a a
-leads_itself None = tt
-leads_itself (Some a) = itself a
+-- an entry that comes in is a timer in its place
+pub timers-insert : (k : Moment) (v : Seat) (es : List (Moment × Seat)) → All (λ t. t.handle.stamp < k.stamp) (timers_at es)
+    → timers_at (insert_entry moment_cmp es k v) ≡ with_timer (timer_at (k, v)) (timers_at es)
+timers-insert k v [] newest = refl
+timers-insert k v (e ∷ es) newest =
+    ap (λ o. timers_at (match_ordering o ((k, v) ∷ e ∷ es) ((e.0, v) ∷ es) (e ∷ insert_entry moment_cmp es k v)))
+    (newest_compares k e.0 (All-head (λ (t : Timer). t.handle.stamp < k.stamp) (timer_at e) (timers_at es) newest))
+    ∙ go (timers-insert k v es (All-tail (λ (t : Timer). t.handle.stamp < k.stamp) (timer_at e) (timers_at es) newest))
+    (nat_lt k.deadline e.0.deadline)
+  where
+    go : timers_at (insert_entry moment_cmp es k v) ≡ with_timer (timer_at (k, v)) (timers_at es) → (b : Bool) →
+        timers_at (match_ordering (cond b Less Greater) ((k, v) ∷ e ∷ es) ((e.0, v) ∷ es) (e ∷ insert_entry moment_cmp es k v)) ≡
+        cond b (timer_at (k, v) ∷ timer_at e ∷ timers_at es) (timer_at e ∷ with_timer (timer_at (k, v)) (timers_at es))
+    go rest true = refl
+    go rest false = ap (λ ts. timer_at e ∷ ts) rest
 
--- what leads leads what follows
-pub leads_leads : (a b c : Option Timer) → Leads a b → Leads b c → Leads a c
-leads_leads a b None p q = tt
-leads_leads a None (Some c) p q = absurd q
-leads_leads None (Some b) (Some c) p q = absurd p
-leads_leads (Some a) (Some b) (Some c) p q = in_turn a b c p q
+-- a timer of the handle has the moment that the handle's slot holds
+of_moment : (handle : TimerKey) (m : Moment) (slots : Slab Moment) (x : Timer) → IsInSlot slots x → get slots handle.slot ≡ Some m
+    → is_timer_of handle x ≡ true → moment_of x ≡ m
+of_moment handle m slots x held slot is =
+    let same : Some (moment_of x) ≡ Some m = sym held ∙ ap (get slots) (slot_of_handle handle x is) ∙ slot in cc
 
--- the one that comes first leads the first of the two
-sooner-leads_first : (a b : Option Timer) → Leads (sooner a b) a
-sooner-leads_first None b = tt
-sooner-leads_first (Some a) None = leads_itself (Some a)
-sooner-leads_first (Some a) (Some b) =
-    cond_both (is_before b a) (Some b) (Some a) (λ s. Leads s (Some a)) (λ e. turned b a e) (λ _. leads_itself (Some a))
+-- no timer after the one of that moment is of the handle
+none_behind : (handle : TimerKey) (e : Moment × Seat) (slots : Slab Moment) (es : List (Moment × Seat)) → AllPairs IsEarlier
+    (timers_at (e ∷ es)) → All (IsInSlot slots) (timers_at (e ∷ es)) → get slots handle.slot ≡ Some e.0
+    → All (λ x. is_timer_of handle x ≡ false) (timers_at es)
+none_behind handle e slots es pairs all slot = λ i d h.
+    let x = get_or (timers_at es) i d in
+    false_from_ne_true (is_timer_of handle x) (λ is. before_differs e.0 (moment_of x)
+    (first_is_earlier (timer_at e) (timers_at es) pairs i d h)
+    (sym (of_moment handle e.0 slots x (All-tail (IsInSlot slots) (timer_at e) (timers_at es) all i d h) slot is)))
 
--- and the second
-sooner-leads_second : (a b : Option Timer) → Leads (sooner a b) b
-sooner-leads_second None b = leads_itself b
-sooner-leads_second (Some a) None = tt
-sooner-leads_second (Some a) (Some b) =
-    cond_both (is_before b a) (Some b) (Some a) (λ s. Leads s (Some b)) (λ _. leads_itself (Some b)) (λ e. e)
+-- the timer of an entry of another moment is not of the handle
+other_moment : (handle : TimerKey) (m : Moment) (slots : Slab Moment) (e : Moment × Seat) → IsInSlot slots (timer_at e)
+    → get slots handle.slot ≡ Some m → is_at (moment_cmp m) e.0 ≡ false → is_timer_of handle (timer_at e) ≡ false
+other_moment handle m slots e held slot other =
+    false_from_ne_true (is_timer_of handle (timer_at e)) (λ is. not_at_moment m e.0 other
+    (of_moment handle m slots (timer_at e) held slot is))
 
--- it is one of the two
-sooner-is_either : (a b : Option Timer) (x : Timer) → sooner a b ≡ Some x → (a ≡ Some x) ⊎ (b ≡ Some x)
-sooner-is_either None b x h = inr h
-sooner-is_either (Some a) None x h = inl h
-sooner-is_either (Some a) (Some b) x h =
-    cond_both (is_before b a) (Some b) (Some a) (λ s. s ≡ Some x → (Some a ≡ Some x) ⊎ (Some b ≡ Some x))
-    (λ _ e. inr e) (λ _ e. inl e) h
+-- the timer at the moment, if it is of the handle
+abbrev pub seated : TimerKey → Moment → Option Seat → Option Timer
+seated handle m None = None
+seated handle m (Some s) = cond (is_timer_of handle (timer_at (m, s))) (Some (timer_at (m, s))) None
 
-module _ (slots : Slab Timer) (fs : List (Option Timer)) (tree : IsTree slots fs) where
-  abbrev left : ℕ → Option Timer
-  left k = first_at fs (2 * k + 1)
+-- the timer of a handle is the one at the moment that the handle's slot holds, if that is of the handle
+pub timer_of-lookup : (handle : TimerKey) (m : Moment) (slots : Slab Moment) (es : List (Moment × Seat)) → AllPairs IsEarlier
+    (timers_at es) → All (IsInSlot slots) (timers_at es) → get slots handle.slot ≡ Some m
+    → timer_of handle (timers_at es) ≡ seated handle m (lookup (is_at (moment_cmp m)) es)
+timer_of-lookup handle m slots [] pairs all slot = refl
+timer_of-lookup handle m slots (e ∷ es) pairs all slot =
+    go (timer_of-lookup handle m slots es (rest_in_order (timer_at e) (timers_at es) pairs)
+    (All-tail (IsInSlot slots) (timer_at e) (timers_at es) all) slot) (is_at (moment_cmp m) e.0) refl
+  where
+    here : e.0 ≡ m → timer_of handle (timer_at e ∷ timers_at es) ≡ seated handle m (Some e.1)
+    here is =
+        let behind = none_behind handle e slots es pairs all (slot ∙ ap Some (sym is)) in
+        ap (λ r. cond (is_timer_of handle (timer_at e)) (Some (timer_at e)) r) (find-none (is_timer_of handle) (timers_at es) behind)
+        ∙ ap (λ n. seated handle n (Some e.1)) is
 
-  abbrev right : ℕ → Option Timer
-  right k = first_at fs (2 * k + 2)
+    go : timer_of handle (timers_at es) ≡ seated handle m (lookup (is_at (moment_cmp m)) es) → (b : Bool) →
+        is_at (moment_cmp m) e.0 ≡ b →
+        timer_of handle (timer_at e ∷ timers_at es) ≡ seated handle m (cond b (Some e.1) (lookup (is_at (moment_cmp m)) es))
+    go rest true is = here (at_moment m e.0 is)
+    go rest false is =
+        ap (λ b. cond b (Some (timer_at e)) (timer_of handle (timers_at es)))
+        (other_moment handle m slots e (All-head (IsInSlot slots) (timer_at e) (timers_at es) all) slot is)
+        ∙ rest
 
-  -- what stands at a place leads what is in the slot
-  pub leads_own : (k : ℕ) → Leads (first_at fs k) (get slots k)
-  leads_own k =
-      subst (λ s. Leads s (get slots k)) (sym (tree k))
-      (leads_leads (first_below slots fs k) (sooner (get slots k) (left k)) (get slots k)
-      (sooner-leads_first (sooner (get slots k) (left k)) (right k)) (sooner-leads_first (get slots k) (left k)))
+-- the entry of the moment goes out: the others are those without the handle's timer
+pub timers-remove : (handle : TimerKey) (m : Moment) (slots : Slab Moment) (es : List (Moment × Seat)) (found : Timer) → AllPairs IsEarlier
+    (timers_at es) → All (IsInSlot slots) (timers_at es) → get slots handle.slot ≡ Some m → timer_of handle (timers_at es) ≡ Some found
+    → timers_at (remove_entry (is_at (moment_cmp m)) es) ≡ without handle (timers_at es)
+timers-remove handle m slots [] found pairs all slot is = refl
+timers-remove handle m slots (e ∷ es) found pairs all slot is =
+    go (timers-remove handle m slots es found (rest_in_order (timer_at e) (timers_at es) pairs)
+    (All-tail (IsInSlot slots) (timer_at e) (timers_at es) all) slot) (is_at (moment_cmp m) e.0) refl
+  where
+    others : List Timer
+    others = without handle (timers_at es)
 
-  -- and the places below
-  pub leads_left : (k : ℕ) → Leads (first_at fs k) (first_at fs (2 * k + 1))
-  leads_left k =
-      subst (λ s. Leads s (left k)) (sym (tree k))
-      (leads_leads (first_below slots fs k) (sooner (get slots k) (left k)) (left k)
-      (sooner-leads_first (sooner (get slots k) (left k)) (right k)) (sooner-leads_second (get slots k) (left k)))
+    kept : (b : Bool) → timer_of handle (timers_at es) ≡ None → others ≡ timers_at es →
+        cond b (Some (timer_at e)) (timer_of handle (timers_at es)) ≡ Some found → timers_at es ≡ cond (not b) (timer_at e ∷ others) others
+    kept true none same h = sym same
+    kept false none same h = absurd (let nothing : None ≡ Some found = sym none ∙ h in cc)
 
-  pub leads_right : (k : ℕ) → Leads (first_at fs k) (first_at fs (2 * k + 2))
-  leads_right k = subst (λ s. Leads s (right k)) (sym (tree k)) (sooner-leads_second (sooner (get slots k) (left k)) (right k))
+    go : (timer_of handle (timers_at es) ≡ Some found → timers_at (remove_entry (is_at (moment_cmp m)) es) ≡ others) → (b : Bool) →
+        is_at (moment_cmp m) e.0 ≡ b →
+        timers_at (cond b es (e ∷ remove_entry (is_at (moment_cmp m)) es)) ≡
+        cond (not (is_timer_of handle (timer_at e))) (timer_at e ∷ others) others
+    go rest true at =
+        let behind = none_behind handle e slots es pairs all (slot ∙ ap Some (sym (at_moment m e.0 at))) in
+        kept (is_timer_of handle (timer_at e)) (find-none (is_timer_of handle) (timers_at es) behind)
+        (kept_all (is_timer_of handle) (timers_at es) behind) is
+    go rest false at =
+        let differs = other_moment handle m slots e (All-head (IsInSlot slots) (timer_at e) (timers_at es) all) slot at in
+        let later : timer_of handle (timers_at es) ≡ Some found =
+        ap (λ b. cond b (Some (timer_at e)) (timer_of handle (timers_at es))) (sym differs) ∙ is in
+        ap (λ ts. timer_at e ∷ ts) (rest later)
+        ∙ ap (λ b. cond (not b) (timer_at e ∷ others) others) (sym differs)
 
-  -- the top leads each place
-  top_leads : (n i : ℕ) → i ≤ n → Leads (first_at fs 0) (first_at fs i)
-  top_leads zero i h =
-      let e : 0 ≡ i = omega (arith, h) in
-      subst (λ j. Leads (first_at fs 0) (first_at fs j)) e (leads_itself (first_at fs 0))
-  top_leads (suc n) i h = elim (cases_eq i 0) [
-    | inl is ↦ subst (λ j. Leads (first_at fs 0) (first_at fs j)) (sym is) (leads_itself (first_at fs 0))
-    | inr more ↦
-        (let above : ℕ = (i - 1) / 2 in
-        let so_far : Leads (first_at fs 0) (first_at fs above) = top_leads n above (omega (arith, h, more)) in
-        elim (cases_eq i (2 * above + 1)) [
-          | inl is ↦ subst (λ j. Leads (first_at fs 0) (first_at fs j)) (sym is)
-              (leads_leads (first_at fs 0) (first_at fs above) (left above) so_far (leads_left above))
-          | inr other ↦ subst (λ j. Leads (first_at fs 0) (first_at fs j))
-              (let e : 2 * above + 2 ≡ i = omega (arith, more, other) in e)
-              (leads_leads (first_at fs 0) (first_at fs above) (right above) so_far (leads_right above))
-        ])
-  ]
+-- what is found passes the test, and has what all have
+pub found-has : {X : Type 0} (P : X → Type 0) (p : X → Bool) (xs : List X) (y : X) → All P xs → find p xs ≡ Some y → P y × (p y ≡ true)
+found-has P p [] y all is = absurd (cc)
+found-has {X} P p (x ∷ xs) y all is = go (found-has P p xs y (All-tail P x xs all)) (p x) refl is
+  where
+    go : (find p xs ≡ Some y → P y × (p y ≡ true)) → (b : Bool) → p x ≡ b → cond b (Some x) (find p xs) ≡ Some y → P y × (p y ≡ true)
+    go rest true here h = let same : x ≡ y = cc in subst (λ z. P z × (p z ≡ true)) same (All-head P x xs all, here)
+    go rest false here h = rest h
 
-  top_leads_own : (i : ℕ) → Leads (first_at fs 0) (get slots i)
-  top_leads_own i = leads_leads (first_at fs 0) (first_at fs i) (get slots i) (top_leads i i (omega arith)) (leads_own i)
+-- what is found stands at a place
+pub found-at : {X : Type 0} (p : X → Bool) (xs : List X) (y d : X) → find p xs ≡ Some y
+    → (i : ℕ) × (i < length xs) × (p (get_or xs i d) ≡ true)
+found-at p [] y d is = absurd (cc)
+found-at {X} p (x ∷ xs) y d is = go (found-at p xs y d) (p x) refl is
+  where
+    go : (find p xs ≡ Some y → (i : ℕ) × (i < length xs) × (p (get_or xs i d) ≡ true)) → (b : Bool) → p x ≡ b →
+        cond b (Some x) (find p xs) ≡ Some y → (i : ℕ) × (i < length (x ∷ xs)) × (p (get_or (x ∷ xs) i d) ≡ true)
+    go rest true here h = (zero, omega arith, here)
+    go rest false here h = let later = rest h in (suc later.0, omega (arith, later.1), later.2)
 
-  -- what stands at a place is in a slot
-  stands : (n k : ℕ) (x : Timer) → length fs ≤ k + n → first_at fs k ≡ Some x → (j : ℕ) × (get slots j ≡ Some x)
-  stands zero k x past h = absurd (none-some x (sym (get_or_past fs k None (omega (arith, past))) ∙ h))
-  stands (suc n) k x past h = elim (sooner-is_either (sooner (get slots k) (left k)) (right k) x (sym (tree k) ∙ h)) [
-    | inl upper ↦ elim (sooner-is_either (get slots k) (left k) x upper) [
-      | inl is ↦ (k, is)
-      | inr is ↦ stands n (2 * k + 1) x (omega (arith, past)) is
-    ]
-    | inr is ↦ stands n (2 * k + 2) x (omega (arith, past)) is
-  ]
-
-  -- a slot that has a timer has a place
-  pub has_place : (k : ℕ) (t : Timer) → get slots k ≡ Some t → k < length fs
-  has_place k t h = elim (cases_lt k (length fs)) [
-    | inl within ↦ within
-    | inr past ↦ absurd (subst (λ o. Leads o (Some t)) (get_or_past fs k None past)
-        (subst (λ o. Leads (first_at fs k) o) h (leads_own k)))
-  ]
-
-  -- the top is the first timer
-  pub first_is : Apart slots.slots → (r : Option Timer) → r ≡ first_at fs 0 → r ≡ first_timer (sorted slots.slots)
-  first_is apart None is = nothing (sorted slots.slots) refl
-    where
-      nothing : (xs : List Timer) → sorted slots.slots ≡ xs → None ≡ first_timer xs
-      nothing [] same = refl
-      nothing (x ∷ xs) same =
-          let there = sorted-in slots.slots x (subst (In x) (sym same) (inl refl)) in
-          absurd (subst (λ o. Leads o (Some x)) (sym is)
-          (subst (λ o. Leads (first_at fs 0) o) there.1 (top_leads_own there.0)))
-  first_is apart (Some t) is =
-      let at = stands (length fs) 0 t (omega arith) (sym is) in
-      sym (first-is t (sorted slots.slots) (sorted-ordered slots.slots apart) (sorted-has slots.slots at.0 t at.1)
-      (λ u m. let there = sorted-in slots.slots u m in
-      subst (λ o. Leads o (Some u)) (sym is) (subst (λ o. Leads (first_at fs 0) o) there.1 (top_leads_own there.0))))
-
--- all places are right but those at one slot
-abbrev pub AreRightBut : ℕ → Slab Timer → List (Option Timer) → Type 0
-AreRightBut at slots fs = (k : ℕ) → k ≢ at → first_at fs k ≡ first_below slots fs k
-
--- after one slot changed, the other places are right
-pub others_right : (slots new : Slab Timer) (fs : List (Option Timer)) (at : ℕ) → IsTree slots fs
-    → ((k : ℕ) → k ≢ at → get new k ≡ get slots k) → AreRightBut at new fs
-others_right slots new fs at tree same = λ k other.
-    tree k ∙ sym (ap (λ o. sooner (sooner o (first_at fs (2 * k + 1))) (first_at fs (2 * k + 2))) (same k other))
-
--- as many places that read the same are a tree too
-pub tree_same : (slots : Slab Timer) (fs more : List (Option Timer)) → ((k : ℕ) → first_at more k ≡ first_at fs k) → IsTree slots fs
-    → IsTree slots more
-tree_same slots fs more same tree = λ k.
-    same k ∙ tree k ∙ sym (ap₂ sooner (ap (sooner (get slots k)) (same (2 * k + 1))) (same (2 * k + 2)))
-
-module _ (slots : Slab Timer) (fs : List (Option Timer)) (at : ℕ) (v : Option Timer) where
-  -- what comes first of a slot and of the places below it, where another place was written
-  below_same : (k : ℕ) → 2 * k + 1 ≢ at → 2 * k + 2 ≢ at → first_below slots fs k ≡ first_below slots (set fs at v) k
-  below_same k no_left no_right =
-      sym (ap₂ sooner (ap (sooner (get slots k)) (get_or-set_other fs at (2 * k + 1) v None no_left))
-      (get_or-set_other fs at (2 * k + 2) v None no_right))
-
-  -- the place that was written is right, and so are the others that are not above it
-  pub right_after : at < length fs → v ≡ first_below slots fs at → AreRightBut at slots fs → (k : ℕ) → 2 * k + 1 ≢ at
-      → 2 * k + 2 ≢ at → first_at (set fs at v) k ≡ first_below slots (set fs at v) k
-  right_after within is others k no_left no_right = elim (cases_eq k at) [
-    | inl here ↦
-        subst (λ j. first_at (set fs at v) j ≡ first_below slots fs j) (sym here)
-        (get_or-set_same fs at v None within ∙ is) ∙ below_same k no_left no_right
-    | inr other ↦ get_or-set_other fs at k v None other ∙ others k other ∙ below_same k no_left no_right
-  ]
-
--- where the place that may be wrong is right too, it is a tree
-pub tree_from : (slots : Slab Timer) (fs : List (Option Timer)) (at : ℕ) → AreRightBut at slots fs
-    → first_at fs at ≡ first_below slots fs at → IsTree slots fs
-tree_from slots fs at others here = λ k. elim (cases_eq k at) [
-  | inl is ↦ subst (λ j. first_at fs j ≡ first_below slots fs j) (sym is) here
-  | inr other ↦ others k other
-]
-
--- how two timers are compared by `==`
-abbrev pub timer_eq : Timer → Timer → Bool
-timer_eq = (timer_partial_eq.ghosts).eq
-
-same_timer : (a b : Timer) → timer_eq a b ≡ true → a ≡ b
-same_timer a b h = grind (arith, nat_tests)
-
--- what is found to be equal is equal
-pub same_first : (a b : Option Timer) → option_eq timer_eq a b ≡ true → a ≡ b
-same_first None None h = refl
-same_first None (Some b) h = absurd (false≢true h)
-same_first (Some a) None h = absurd (false≢true h)
-same_first (Some a) (Some b) h = ap Some (same_timer a b h)
+-- the first deadline is that of the first entry
+pub first-deadline : (es : List (Moment × Seat)) (e : Moment × Seat) → slice_get es 0 ≡ Some e
+    → Some e.0.deadline ≡ first_deadline (timers_at es)
+first-deadline [] e is = absurd (cc)
+first-deadline (x ∷ xs) e is = ap (λ y. Some y.0.deadline) (let same : x ≡ e = cc in sym same)

@@ -1,4 +1,3 @@
 pub mod Order
 pub mod Queue
 pub mod Handles
-pub mod Due

@@ -1,12 +1,11 @@
 //! Deadlines in order: timers that wait, and the first that is due. What an expiry means stands elsewhere.
 #![tactic(auto)]
 
-mod due;
 mod fault;
 mod key;
 mod laws;
+mod moment;
 mod timers;
-mod tree;
 
 pub use fault::TimerFault;
 pub use key::TimerKey;

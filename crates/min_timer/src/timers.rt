@@ -1,27 +1,28 @@
-// The timers that wait, each in its slot, and a tree over the slots that tells which comes first. The invariants:
-// 1. each timer is in the slot of its handle;
-// 2. no two timers have one stamp, and none is above the last that was given out;
-// 3. at the place of each slot stands what comes first of it and of the two places below.
-ghost use Rattle.std.specs.Prelude.{◌≡◌, ◌≢◌, ◌+◌, ◌^◌, ◌<◌, ◌≤◌, ◌↔◌, [], true, false, if◌then◌else◌, length, IfOk, IfErr, OnOk, OnErr, IsSome, IfSome};
+// The timers that wait, in a tree by their moments. The invariants:
+// 1. the timers rise by deadline, and among equal deadlines by stamp;
+// 2. the slot of each timer holds its deadline and its stamp;
+// 3. there are as many slots in use as timers;
+// 4. no stamp is above the last one that was given out.
+ghost use Rattle.std.specs.Prelude.{◌≡◌, ◌≢◌, ◌+◌, ◌^◌, ◌<◌, ◌≤◌, ◌↔◌, [], true, false, if◌then◌else◌, length, IfOk, IfErr, OnOk, OnErr};
 ghost use Rattle.std.specs.Option.{ok_or, option_map};
 
-use crate::due::{find_due, keys_of};
 use crate::fault::TimerFault;
 use crate::key::TimerKey;
-use crate::tree::{First, climb, first_at, lengthen, timer_in};
+use crate::moment::{Moment, Seat};
 use slab::Slab;
 use std::alloc::Global;
+use std::collections::BTreeMap;
 use std::marker::Model;
 
 /// The most delays that are registered, as libevent has them.
 const MAX_DELAYS: usize = 256;
 
 /// A timer that waits. Clauses speak of it; no call hands one out.
-#[derive(Clone, Copy, PartialEq, Eq, PartialOrd, Ord)]
+#[derive(Clone, Copy)]
 pub struct Timer {
-    pub(crate) deadline: u64,
-    pub(crate) handle: TimerKey,
-    pub(crate) key: u64,
+    deadline: u64,
+    key: u64,
+    handle: TimerKey,
 }
 
 /// Timers that wait, in the order in which they come due: by deadline, in milliseconds, and among
@@ -31,8 +32,8 @@ pub struct Timer {
 /// Differs: equal deadlines keep the order of adding.
 #[derive(Drop)]
 pub struct Timers {
-    slots: Slab<Timer>,
-    firsts: Vec<First>,
+    order: BTreeMap<Moment, Seat>,
+    slots: Slab<Moment>,
     delays: Vec<u64>,
     last: u64,
 }
@@ -42,16 +43,15 @@ impl Model for Timers {
 
     ghost Value = { TimerQueue };
 
-    ghost use Rattle.min_timer.specs.Order.{sorted, IsKept};
+    ghost use Rattle.min_timer.specs.Order.{timers_at, IsKept};
 
-    ghost view = { λ t. record { pending = sorted t.slots.slots; last = t.last; delays = t.delays.items } };
+    ghost view = { λ t. record { pending = timers_at t.order.entries; last = t.last; delays = t.delays.items } };
 
-    ghost invariant = { λ t. IsKept t.slots t.firsts.items t.last };
+    ghost invariant = { λ t. IsKept (timers_at t.order.entries) t.slots t.last };
 }
 
 impl Timers {
     ghost use Rattle.min_timer.specs.Queue.{number_of, timer_of, without, with_timer, first_deadline, first_due, after_due};
-    ghost use Rattle.min_timer.specs.Order.{first_timer, after_first};
     ghost use Rattle.min_timer.specs.Queue.{due_keys, has_delay, with_delay, are_too_many};
 
     /// No timers. Takes no memory; constant cost.
@@ -61,8 +61,8 @@ impl Timers {
         ensures delays { result.delays ≡ [] }
     {
         Timers {
+            order: BTreeMap::new(alloc),
             slots: Slab::new(alloc),
-            firsts: Vec::new(alloc),
             delays: Vec::new(alloc),
             last: 0,
         }
@@ -129,17 +129,12 @@ impl Timers {
     {
         let stamp = self.last.checked_add(1).ok_or(TimerFault::Spent)?;
         self.slots.reserve(1)?;
+        let moment = Moment { deadline, stamp };
         let slot = self.slots.vacant_key();
-        lengthen(&mut self.firsts, slot)?;
-        let handle = TimerKey { stamp, slot };
-        let _ = self.slots.insert_reserved(Timer {
-            deadline,
-            handle,
-            key,
-        });
-        climb(&self.slots, &mut self.firsts, slot);
+        self.order.insert(moment, Seat { key, slot })?;
+        let slot = self.slots.insert_reserved(moment);
         self.last = stamp;
-        Ok(handle)
+        Ok(TimerKey { slot, stamp })
     }
 
     /// Adds a timer that comes due so long after now, both in milliseconds: what `add` does with their
@@ -181,7 +176,12 @@ impl Timers {
         let Some(found) = self.timer_of(timer) else {
             return Err(TimerFault::NotPending);
         };
-        self.take_out(timer);
+        let moment = Moment {
+            deadline: found.deadline,
+            stamp: timer.stamp,
+        };
+        let _ = self.order.remove(&moment);
+        let _ = self.slots.try_remove(timer.slot);
         Ok(found.key)
     }
 
@@ -189,7 +189,16 @@ impl Timers {
     fn timer_of(&self, timer: TimerKey) -> Option<Timer>
         ensures { result ≡ timer_of timer self.now.pending }
     {
-        let found = timer_in(&self.slots, timer.slot)?;
+        let moment = *self.slots.get(timer.slot)?;
+        let seat = *self.order.get(&moment)?;
+        let found = Timer {
+            deadline: moment.deadline,
+            key: seat.key,
+            handle: TimerKey {
+                slot: seat.slot,
+                stamp: moment.stamp,
+            },
+        };
         if found.handle == timer {
             Some(found)
         } else {
@@ -197,45 +206,30 @@ impl Timers {
         }
     }
 
-    // Takes the timer of this handle out, which waits.
-    fn take_out(&mut self, timer: TimerKey)
-        requires { IsSome (timer_of timer self.old.pending) }
-        ensures { self.new ≡ record self.old { pending = without timer self.old.pending } }
-    {
-        let _ = self.slots.try_remove(timer.slot);
-        climb(&self.slots, &mut self.firsts, timer.slot);
-    }
-
-    // The first timer.
-    fn first(&self) -> Option<Timer>
-        ensures first { result ≡ first_timer self.now.pending }
-        ensures others { IfSome result (λ first. without first.handle self.now.pending ≡ after_first self.now.pending) }
-        ensures waits { IfSome result (λ first. IsSome (timer_of first.handle self.now.pending)) }
-    {
-        first_at(&self.firsts, 0)
-    }
-
-    /// The deadline of the first timer, or None where none waits. Takes no memory; constant cost.
+    /// The deadline of the first timer, or None where none waits. Takes no memory; logarithmic in the
+    /// number of timers.
     pub fn next_deadline(&self) -> Option<u64>
         ensures { result ≡ first_deadline self.now.pending }
     {
-        match self.first() {
-            Some(first) => Some(first.deadline),
+        match self.order.first_key_value() {
+            Some((moment, _)) => Some(moment.deadline),
             None => None,
         }
     }
 
     /// The keys of the timers whose deadline is at most this time, in milliseconds, in the order in which
-    /// they come due. None of them is taken out. Takes memory; linear in the number of those keys times the logarithm
-    /// of that of timers, and constant where there are none.
+    /// they come due. None of them is taken out. Takes memory; linear in the number of those keys.
     pub fn due(&self, alloc: Global, time: u64) -> Result<Vec<u64>, TimerFault>
         ensures keys { IfOk result (λ keys. keys.items ≡ due_keys time self.now.pending) }
         ensures refused { IfErr result (λ fault. fault ≡ TimerFault.Memory) }
     {
-        let mut found = Vec::new(alloc);
-        find_due(&self.slots, &self.firsts, 0, time, &mut found)?;
-        found.sort_unstable();
-        let keys = keys_of(alloc, &found)?;
+        let mut keys = Vec::new(alloc);
+        for (moment, seat) in &self.order {
+            if moment.deadline > time {
+                break;
+            }
+            keys.push(seat.key)?;
+        }
         Ok(keys)
     }
 
@@ -247,11 +241,11 @@ impl Timers {
         ensures last { self.new.last ≡ self.old.last }
         ensures delays { self.new.delays ≡ self.old.delays }
     {
-        let first = self.first()?;
-        if first.deadline > now {
+        if self.next_deadline()? > now {
             return None;
         }
-        self.take_out(first.handle);
-        Some((first.key, first.deadline))
+        let (moment, seat) = self.order.pop_first()?;
+        let _ = self.slots.try_remove(seat.slot);
+        Some((seat.key, moment.deadline))
     }
 }
