@@ -2,8 +2,8 @@
 // its bytes.
 ghost use Rattle.std.specs.Prelude.{◌≡◌, ◌≤◌, ◌<◌, ◌+◌, ◌-◌, ◌*◌, ◌^◌, ◌++◌, ◌==◌, [], length, drop, take, min, max, None};
 ghost use Rattle.std.specs.Prelude.{if◌then◌else◌, OnOk, OnErr, IfOk};
-ghost use Rattle.byte_queue.specs.Answers.{AnswersOr, fault_of};
-ghost use Rattle.byte_queue.specs.Queue.{most_spare};
+ghost use Rattle.byte_queue.specs.MemoryAnswers.{AnswersOr, fault_of};
+ghost use Rattle.byte_queue.specs.QueuedBytes.{most_spare};
 ghost use Rattle.bev_core.specs.BevValue.{Held, nothing};
 ghost use Rattle.bev_core.specs.Moves.{GoesInto};
 ghost use Rattle.bev_core.specs.Refusals.{length_refusal};

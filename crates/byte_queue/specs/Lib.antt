@@ -1,3 +1,3 @@
-pub mod Answers
-pub mod Queue
+pub mod MemoryAnswers
 pub mod QueueView
+pub mod QueuedBytes

@@ -1,6 +1,6 @@
 -- How a queue of bytes keeps what it shows.
 use Rattle.std.specs.Prelude.{◌≡◌, ◌-◌, ◌*◌, ◌≤◌, drop, take, vec_len, vec_capacity}
-use Rattle.byte_queue.specs.Queue.{Queued}
+use Rattle.byte_queue.specs.QueuedBytes.{Queued}
 use Rattle.byte_queue.specs.declared.byte_queue.ByteQueue.TheInside.{Inside}
 
 -- the bytes from the start to the end, the room before them, and all the room behind them

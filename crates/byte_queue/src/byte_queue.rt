@@ -25,7 +25,7 @@ pub struct ByteQueue {
 }
 
 impl Model for ByteQueue {
-    ghost use Rattle.byte_queue.specs.Queue.{Queued};
+    ghost use Rattle.byte_queue.specs.QueuedBytes.{Queued};
 
     ghost Value = { Queued };
 
@@ -37,7 +37,7 @@ impl Model for ByteQueue {
 }
 
 impl ByteQueue {
-    ghost use Rattle.byte_queue.specs.Queue.{given_up_room, room_in_all, most_spare};
+    ghost use Rattle.byte_queue.specs.QueuedBytes.{given_up_room, room_in_all, most_spare};
 
     /// An empty queue. Takes no memory; constant.
     pub fn new(alloc: Global) -> ByteQueue
@@ -199,8 +199,8 @@ impl ByteQueue {
         }
     }
 
-    /// Puts bytes in front. Takes memory where there is less room there. After a refusal nothing has changed. Linear in the bytes, over many
-    /// calls.
+    /// Puts bytes in front. Takes memory where there is less room there. After a refusal nothing has changed. Linear in the bytes, over
+    /// many calls.
     pub fn prepend(&mut self, bytes: &[u8]) -> Result<(), AllocError>
         ensures items { OnOk result (self.new.items ≡ bytes.now ++ self.old.items) }
         ensures spare { self.new.spare ≡ self.old.spare }

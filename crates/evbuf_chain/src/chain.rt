@@ -7,10 +7,10 @@
 ghost use Rattle.std.specs.Prelude.{◌≡◌, ◌≤◌, ◌<◌, ◌+◌, ◌-◌, ◌*◌, ◌^◌, ◌++◌, ◌∷◌, ◌==◌, ◌↔◌, [], length, drop, take, min, nat_lt};
 ghost use Rattle.std.specs.Prelude.{OnOk, OnErr};
 ghost use Rattle.std.specs.Prelude.{IfOk, IfSome, IfNone, None, if◌then◌else◌};
-ghost use Rattle.byte_queue.specs.Answers.{AnswersOr, fault_of};
+ghost use Rattle.byte_queue.specs.MemoryAnswers.{AnswersOr, fault_of};
 ghost use Rattle.evbuf_chain.specs.Mark.{unmarked, reference_marks, ended_tickets, uncut_marks, AreWhole};
 ghost use Rattle.evbuf_chain.specs.Buffered.{length_refusal, joined, given_up};
-ghost use Rattle.byte_queue.specs.Queue.{most_spare};
+ghost use Rattle.byte_queue.specs.QueuedBytes.{most_spare};
 ghost use Rattle.evbuf_chain.specs.declared.fault.ChainFault.TheVariants.{Memory};
 ghost use Rattle.std.specs.Rc.{rc_slice_items};
 

@@ -1,7 +1,7 @@
 // Room that is made in a buffer before, and bytes that come into it.
 ghost use Rattle.std.specs.Prelude.{◌≡◌, ◌≤◌, ◌+◌, length, max, OnOk, OnErr};
-ghost use Rattle.byte_queue.specs.Answers.{AnswersOr};
-ghost use Rattle.byte_queue.specs.Queue.{most_spare};
+ghost use Rattle.byte_queue.specs.MemoryAnswers.{AnswersOr};
+ghost use Rattle.byte_queue.specs.QueuedBytes.{most_spare};
 ghost use Rattle.bev_core.specs.Refusals.{live_refusal};
 ghost use Rattle.bev_core.specs.Steps.{held, with_held, more, fed_reserved};
 ghost use Rattle.bev_core.specs.declared.fault.BevFault.TheVariants.{Memory};
