@@ -1,6 +1,5 @@
 pub mod BevValue
 pub mod BevView
-pub mod BufferView
 pub mod Moves
 pub mod Refusals
 pub mod Steps

@@ -7,7 +7,7 @@
 // 3. Nobody else reaches its buffers, so the input is frozen at its end and the output at its front for all others.
 ghost use Rattle.std.specs.Prelude.{◌≡◌, ◌≤◌, ◌<◌, ◌+◌, ◌-◌, ◌^◌, ◌++◌, ◌==◌, [], length, drop, take, min, true, false, None, OnOk, OnErr};
 ghost use Rattle.std.specs.Prelude.{IfOk, if◌then◌else◌};
-ghost use Rattle.evbuf_chain.specs.Answers.{AnswersOr, fault_of};
+ghost use Rattle.byte_queue.specs.MemoryAnswers.{AnswersOr, fault_of};
 ghost use Rattle.bev_core.specs.BevValue.{new_bev, state_of, reaches_low};
 ghost use Rattle.bev_core.specs.Refusals.{live_refusal, length_refusal, write_refusal, feed_refusal, incref_refusal, decref_refusal};
 ghost use Rattle.bev_core.specs.Steps.{held, with_held, with_enabled, with_marks, with_timeouts, touched, freed, more, less, given_up};

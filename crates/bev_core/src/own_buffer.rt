@@ -1,9 +1,9 @@
-// A buffer that nobody but its bufferevent reaches. It is frozen at no end, so that no call is refused for that, and it has
-// no reference and no size callback, so that all of it is its bytes.
+// A buffer that nobody but its bufferevent reaches. So it is frozen at no end, and has no reference and no size callback: all of it is
+// its bytes.
 ghost use Rattle.std.specs.Prelude.{◌≡◌, ◌≤◌, ◌<◌, ◌+◌, ◌-◌, ◌*◌, ◌^◌, ◌++◌, ◌==◌, [], length, drop, take, min, max, None};
 ghost use Rattle.std.specs.Prelude.{if◌then◌else◌, OnOk, OnErr, IfOk};
-ghost use Rattle.evbuf_chain.specs.Answers.{AnswersOr, fault_of};
-ghost use Rattle.evbuf_chain.specs.Buffered.{most_spare};
+ghost use Rattle.byte_queue.specs.MemoryAnswers.{AnswersOr, fault_of};
+ghost use Rattle.byte_queue.specs.QueuedBytes.{most_spare};
 ghost use Rattle.bev_core.specs.BevValue.{Held, nothing};
 ghost use Rattle.bev_core.specs.Moves.{GoesInto};
 ghost use Rattle.bev_core.specs.Refusals.{length_refusal};
@@ -11,8 +11,8 @@ ghost use Rattle.bev_core.specs.Steps.{more, less, without_room};
 ghost use Rattle.bev_core.specs.declared.fault.BevFault.TheVariants.{Memory};
 
 use crate::fault::BevFault;
+use byte_queue::ByteQueue;
 use ev_types::NoMemory;
-use evbuf::Evbuffer;
 use std::alloc::Global;
 use std::marker::Model;
 use std::mem;
@@ -22,18 +22,16 @@ use std::mem;
 /// Own.
 #[derive(Drop)]
 pub(crate) struct OwnBuffer {
-    buf: Evbuffer,
+    queue: ByteQueue,
 }
 
 impl Model for OwnBuffer {
+    ghost use Rattle.std.specs.Prelude.{◌≤◌, ◌*◌, length};
     ghost use Rattle.bev_core.specs.BevValue.{Held};
-    ghost use Rattle.bev_core.specs.BufferView.{IsOwn};
 
     ghost Value = { Held };
 
-    ghost view = { λ own. record { bytes = own.buf.bytes; spare = own.buf.spare } };
-
-    ghost invariant = { λ own. IsOwn own.buf };
+    ghost view = { λ own. record { bytes = own.queue.items; spare = own.queue.spare } };
 }
 
 impl OwnBuffer {
@@ -41,7 +39,7 @@ impl OwnBuffer {
         ensures { result ≡ nothing }
     {
         OwnBuffer {
-            buf: Evbuffer::new(alloc),
+            queue: ByteQueue::new(alloc),
         }
     }
 
@@ -49,25 +47,29 @@ impl OwnBuffer {
         ensures len { result ≡ length self.now.bytes }
         ensures fits { length self.now.bytes + self.now.spare < 2 ^ 64 }
     {
-        self.buf.len()
+        self.queue.len()
     }
 
     pub(crate) fn allocator(&self) -> Global {
-        self.buf.allocator()
+        self.queue.allocator()
     }
 
     /// The first n bytes, or all where there are fewer, in one piece.
     pub(crate) fn front(&self, n: usize) -> &[u8]
         ensures { result.now ≡ take n self.now.bytes }
     {
-        self.buf.front(n)
+        let (bytes, _) = self.queue.as_slice().split_at(n.min(self.len()));
+        bytes
     }
 
     pub(crate) fn copy_out(&self, into: &mut [u8]) -> usize
         ensures count { result ≡ min (length into.old) (length self.now.bytes) }
         ensures copied { into.new ≡ take result self.now.bytes ++ drop result into.old }
     {
-        self.buf.copy_out(0, into)
+        let count = into.len().min(self.len());
+        let (place, _) = into.split_at_mut(count);
+        place.copy_from_slice(self.front(count));
+        count
     }
 
     /// Makes room for at least n more.
@@ -78,23 +80,21 @@ impl OwnBuffer {
         ensures most { self.new.spare ≤ most_spare self.old.spare n (length self.old.bytes) }
         ensures err { OnErr result (self.new ≡ self.old) }
     {
-        match self.buf.reserve(n) {
-            Ok(()) => Ok(()),
-            Err(_) => Err(NoMemory),
-        }
+        self.queue.reserve(n)?;
+        Ok(())
     }
 
-    /// Makes room for at least n more: where no memory is left for it, by exchange with an empty one that has room for all.
-    pub(crate) fn find_room(&mut self, n: usize, spare: &mut OwnBuffer)
-        requires room { length self.old.bytes + n ≤ spare.old.spare }
+    /// Appends: in room that it makes, or where no memory is left for that in the room of an empty one that has room for all.
+    pub(crate) fn feed_or_swap(&mut self, bytes: &[u8], spare: &mut OwnBuffer)
+        requires room { length self.old.bytes + length bytes.now ≤ spare.old.spare }
         requires empty { spare.old.bytes ≡ [] }
-        ensures bytes { self.new.bytes ≡ self.old.bytes }
-        ensures room { n ≤ self.new.spare }
-        ensures most { self.new.spare ≤ max spare.old.spare (most_spare self.old.spare n (length self.old.bytes)) }
+        ensures fed { self.new ≡ more self.old bytes.now self.new.spare }
+        ensures most { self.new.spare ≤ max spare.old.spare (most_spare self.old.spare 0 (length self.old.bytes)) }
         ensures empty { spare.new.bytes ≡ [] }
     {
-        if self.reserve(n).is_err() {
+        if self.queue.append(bytes).is_err() {
             self.take_room(spare);
+            self.feed_reserved(bytes);
         }
     }
 
@@ -107,7 +107,7 @@ impl OwnBuffer {
     {
         let len = self.len();
         spare.feed_reserved(self.front(len));
-        mem::swap(&mut self.buf, &mut spare.buf);
+        mem::swap(&mut self.queue, &mut spare.queue);
         spare.drain(len);
     }
 
@@ -116,8 +116,7 @@ impl OwnBuffer {
         requires { length bytes.now ≤ self.old.spare }
         ensures { self.new ≡ more self.old bytes.now (self.old.spare - length bytes.now) }
     {
-        let _len = self.buf.len();
-        self.buf.push_reserved(bytes).unwrap();
+        self.queue.push(bytes);
     }
 
     /// Takes off the first n, or all where there are fewer. Takes no memory.
@@ -126,22 +125,22 @@ impl OwnBuffer {
         ensures spare { self.old.spare ≤ self.new.spare }
         ensures most { length self.new.bytes + self.new.spare ≤ self.old.spare + 4 * length self.old.bytes }
     {
-        let _len = self.buf.len();
-        self.buf.drain(n).unwrap();
+        let n = n.min(self.len());
+        self.queue.drop_front(n);
     }
 
     /// Frees the room where there is no byte. Takes no memory.
     pub(crate) fn give_up(&mut self)
         ensures { self.new ≡ without_room self.old }
     {
-        self.buf.give_up();
+        self.queue.give_up();
     }
 
     /// Drops the bytes, and frees their room. Takes no memory.
     pub(crate) fn empty(&mut self)
         ensures { self.new ≡ nothing }
     {
-        self.buf = Evbuffer::new(self.buf.allocator());
+        self.queue = ByteQueue::new(self.allocator());
     }
 
     /// Appends, in room that it makes.
@@ -151,8 +150,9 @@ impl OwnBuffer {
         ensures err { OnErr result (self.new ≡ self.old) }
     {
         self.fits(bytes.len())?;
-        self.reserve(bytes.len())?;
-        self.feed_reserved(bytes);
+        if self.queue.append(bytes).is_err() {
+            return Err(BevFault::Memory);
+        }
         Ok(())
     }
 
@@ -183,7 +183,7 @@ impl OwnBuffer {
         ensures given { to.new ≡ more to.old (take n self.old.bytes) to.new.spare }
     {
         if self.len() <= n && to.len() == 0 {
-            mem::swap(&mut self.buf, &mut to.buf);
+            mem::swap(&mut self.queue, &mut to.queue);
             return;
         }
         to.feed_reserved(self.front(n));

@@ -1,6 +1,6 @@
 // The bytes that go from one half of a pair to the other.
 ghost use Rattle.std.specs.Prelude.{◌≡◌, ◌≤◌, min, length, [], None, OnOk, OnErr, IfOk, option_map};
-ghost use Rattle.evbuf_chain.specs.Answers.{AnswersOr, fault_of};
+ghost use Rattle.byte_queue.specs.MemoryAnswers.{AnswersOr, fault_of};
 ghost use Rattle.token_bucket.specs.declared.limit.Dir.TheVariants as dir_of;
 ghost use Rattle.bev_core.specs.Moves.{BytesGo};
 ghost use Rattle.bev_pair.specs.Transfer.{moved_by, count_of, transfer_refusal, flush_flags};

@@ -1,6 +1,6 @@
 // Buffers by number, between which bytes are moved.
 ghost use Rattle.std.specs.Prelude.{◌≡◌, ◌≢◌, ◌<◌, length, replicate, OnOk, OnErr, IfOk, None, min, slice_set, slice_index_or, IsTrue, ◌↔◌};
-ghost use Rattle.evbuf_chain.specs.Answers.{AnswersOr};
+ghost use Rattle.byte_queue.specs.MemoryAnswers.{AnswersOr};
 ghost use Rattle.evbuf.specs.Steps.{new_buffer, after_giving, after_taking, after_giving_all, after_taking_all};
 ghost use Rattle.evbuf.specs.Moves.{buffer_at, move_all_refusal, move_some_refusal, MovesAll, MovesSome};
 ghost use Rattle.evbuf.specs.declared.fault.BufFault.TheVariants.{Memory};

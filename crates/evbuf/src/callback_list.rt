@@ -3,7 +3,7 @@ ghost use Rattle.std.specs.Prelude.{◌≡◌, ◌≤◌, ◌<◌, ◌+◌, ◌^
 ghost use Rattle.std.specs.Prelude.{vec_len, MatchOption, slice_index_or, IsTrue, true, is_some};
 ghost use Rattle.evbuf.specs.Callbacks.{all_after_change, after_change, new_callback, has_callback, without, with_enabled, enabled_at};
 ghost use Rattle.evbuf.specs.Callbacks.{report_of, newest_waiting, after_report, waits};
-ghost use Rattle.evbuf_chain.specs.Answers.{fault_of};
+ghost use Rattle.byte_queue.specs.MemoryAnswers.{fault_of};
 
 use crate::callback::{Report, SizeCallback};
 use std::alloc::{AllocError, Global};

@@ -6,8 +6,9 @@
 // 3. A number of a callback is not used again.
 ghost use Rattle.std.specs.Prelude.{◌≡◌, ◌≤◌, ◌+◌, ◌-◌, ◌*◌, ◌^◌, ◌<◌, ◌++◌, ◌∷◌, [], length, drop, take, min, true, false, OnOk};
 ghost use Rattle.std.specs.Prelude.{OnErr, IfOk, IfSome, IfNone, None, Some, option_map};
-ghost use Rattle.evbuf_chain.specs.Answers.{AnswersOr, fault_of};
-ghost use Rattle.evbuf_chain.specs.Buffered.{joined, PullupAnswer, most_spare};
+ghost use Rattle.byte_queue.specs.MemoryAnswers.{AnswersOr, fault_of};
+ghost use Rattle.evbuf_chain.specs.Buffered.{joined, PullupAnswer};
+ghost use Rattle.byte_queue.specs.QueuedBytes.{most_spare};
 ghost use Rattle.evbuf_chain.specs.Mark.{AreWhole};
 ghost use Rattle.evbuf.specs.Callbacks.{new_callback, without, with_enabled, report_of, newest_waiting, after_report};
 ghost use Rattle.evbuf.specs.Steps.{new_buffer, after_add, after_prepend, after_reference, after_drain, after_giving, after_taking};

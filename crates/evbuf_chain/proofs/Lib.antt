@@ -1,5 +1,4 @@
 pub mod MarkLemmas
-pub mod QueueLemmas
 pub mod RunLemmas
 pub mod TicketLemmas
 pub mod UnmarkedLemmas

@@ -1,5 +1,5 @@
 -- What contracts see of a chain.
-use Rattle.std.specs.Prelude.{◌≡◌, ℕ, ◌+◌, ◌*◌, ◌^◌, ◌≤◌, ◌<◌, ◌==◌, max, nat_lt, if◌then◌else◌, Option, Some, None, Result, Ok, Err}
+use Rattle.std.specs.Prelude.{◌≡◌, ℕ, ◌^◌, ◌≤◌, ◌<◌, ◌==◌, nat_lt, if◌then◌else◌, Option, Some, None, Result, Ok, Err}
 use Rattle.std.specs.Prelude.{List, ◌++◌, length, take, drop, flat_map}
 use Rattle.std.specs.Borrow.{Bor}
 use Rattle.evbuf_chain.specs.Mark.{Marks, unmarked, ended_tickets}
@@ -13,10 +13,6 @@ pub record Buffered : Type 0 where
   pub marks : Marks
   pub spare : ℕ
   pub released : List ℕ
-
--- What is spare at most once room was made for n more behind so many bytes: what was spare, or n and seven times the bytes.
-abbrev pub most_spare : ℕ → ℕ → ℕ → ℕ
-most_spare before n bytes = max before (n + 7 * bytes)
 
 -- Why a length can be no length, or none: it is above the greatest number of a usize.
 abbrev pub length_refusal : ℕ → Option ChainFault

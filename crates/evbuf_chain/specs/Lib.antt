@@ -1,4 +1,3 @@
-pub mod Answers
 pub mod Buffered
 pub mod Inner
 pub mod Made

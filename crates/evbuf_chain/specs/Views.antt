@@ -1,22 +1,10 @@
--- How the parts of a chain keep what they show.
-use Rattle.std.specs.Prelude.{◌≡◌, ◌-◌, ◌+◌, ◌*◌, ◌≤◌, min, List, [], ◌∷◌, ◌++◌, drop, take, vec_len, vec_capacity}
+-- How the list of marks of a chain keeps what it shows.
+use Rattle.std.specs.Prelude.{◌-◌, ◌+◌, ◌≤◌, min, List, [], ◌∷◌, ◌++◌}
 use Rattle.std.specs.VecDeque.{deque_len, deque_capacity}
 use Rattle.evbuf_chain.specs.Mark.{Marks, unmarked, reference_marks}
-use Rattle.evbuf_chain.specs.Inner.{Queued, Listed}
+use Rattle.evbuf_chain.specs.Inner.{Listed}
 use Rattle.evbuf_chain.specs.declared.run.Run.{Run}
-use Rattle.evbuf_chain.specs.declared.byte_queue.ByteQueue.TheInside as queue
 use Rattle.evbuf_chain.specs.declared.mark_list.MarkList.TheInside as list
-
--- the bytes from the start to the end, the room before them, and all the room behind them
-abbrev pub queued : queue.Inside → Queued
-queued q = record { items = drop q.start (take q.end q.kept.items); front = q.start; spare = vec_len q.kept - q.end }
-
--- The bytes end within the block, at most three quarters of what lies before their end lie before their start, and no memory is kept
--- but the block.
-pub record IsQueue (q : queue.Inside) : Type 0 where
-  pub within : q.end ≤ vec_len q.kept
-  pub front : 4 * q.start ≤ 3 * q.end
-  pub whole : vec_capacity q.kept ≡ vec_len q.kept
 
 -- the marks of references, each behind its gap of unmarked bytes, before the marks of what follows them
 abbrev pub run_marks : List Run → Marks → Marks

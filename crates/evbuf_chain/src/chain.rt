@@ -7,15 +7,16 @@
 ghost use Rattle.std.specs.Prelude.{◌≡◌, ◌≤◌, ◌<◌, ◌+◌, ◌-◌, ◌*◌, ◌^◌, ◌++◌, ◌∷◌, ◌==◌, ◌↔◌, [], length, drop, take, min, nat_lt};
 ghost use Rattle.std.specs.Prelude.{OnOk, OnErr};
 ghost use Rattle.std.specs.Prelude.{IfOk, IfSome, IfNone, None, if◌then◌else◌};
-ghost use Rattle.evbuf_chain.specs.Answers.{AnswersOr, fault_of};
+ghost use Rattle.byte_queue.specs.MemoryAnswers.{AnswersOr, fault_of};
 ghost use Rattle.evbuf_chain.specs.Mark.{unmarked, reference_marks, ended_tickets, uncut_marks, AreWhole};
-ghost use Rattle.evbuf_chain.specs.Buffered.{length_refusal, joined, given_up, most_spare};
+ghost use Rattle.evbuf_chain.specs.Buffered.{length_refusal, joined, given_up};
+ghost use Rattle.byte_queue.specs.QueuedBytes.{most_spare};
 ghost use Rattle.evbuf_chain.specs.declared.fault.ChainFault.TheVariants.{Memory};
 ghost use Rattle.std.specs.Rc.{rc_slice_items};
 
-use crate::byte_queue::ByteQueue;
 use crate::fault::ChainFault;
 use crate::made_marks::{self, MadeMarks};
+use byte_queue::ByteQueue;
 use smallvec::SmallVec;
 use std::alloc::Global;
 use std::marker::Model;
@@ -115,7 +116,6 @@ impl Chain {
         ensures most { self.new.spare ≤ most_spare self.old.spare n (length self.old.bytes) }
         ensures err { OnErr result (self.new ≡ self.old) }
     {
-        let _len = self.bytes.len();
         self.bytes.reserve(n)?;
         Ok(())
     }
@@ -144,8 +144,8 @@ impl Chain {
         ensures err { OnErr result (self.new ≡ self.old) }
     {
         self.fits(bytes.len())?;
-        self.reserve(bytes.len())?;
-        self.push_reserved(bytes);
+        self.bytes.append(bytes)?;
+        made_marks::add_unmarked(&mut self.marks, bytes.len());
         Ok(())
     }
 
@@ -165,8 +165,7 @@ impl Chain {
         self.fits(bytes.len())?;
         let alloc = self.bytes.allocator();
         made_marks::reserve(&mut self.marks, self.bytes.len(), 1, alloc)?;
-        self.bytes.reserve(bytes.len())?;
-        self.bytes.push(bytes.as_slice());
+        self.bytes.append(bytes.as_slice())?;
         made_marks::add_reference(&mut self.marks, bytes.len(), ticket);
         Ok(())
     }
@@ -287,9 +286,8 @@ impl Chain {
         to.fits(n)?;
         let alloc = to.bytes.allocator();
         made_marks::reserve_moved(&self.marks, n, &mut to.marks, to.bytes.len(), alloc)?;
-        to.bytes.reserve(n)?;
         let (bytes, _) = self.bytes.as_slice().split_at(n);
-        to.bytes.push(bytes);
+        to.bytes.append(bytes)?;
         self.bytes.drop_front(n);
         made_marks::move_front(&mut self.marks, n, &mut to.marks);
         Ok(n)

@@ -1,7 +1,6 @@
 //! Bytes of a buffer in order, with the marks of the references that were added to it. No freezing, callbacks or lines.
 #![tactic(auto)]
 
-mod byte_queue;
 mod chain;
 mod fault;
 mod laws;
@@ -9,7 +8,6 @@ mod made_marks;
 mod mark_list;
 mod run;
 
-pub use byte_queue::ByteQueue;
 pub use chain::Chain;
 pub use fault::ChainFault;
 pub use laws::tickets_are_handed_out_once;

@@ -1,6 +1,6 @@
 // The first bytes of a buffer, and its first line.
 ghost use Rattle.std.specs.Prelude.{◌≡◌, min, length, take, drop, IfOk, IfErr, OnOk, OnErr, option_map};
-ghost use Rattle.evbuf_chain.specs.Answers.{AnswersOr};
+ghost use Rattle.byte_queue.specs.MemoryAnswers.{AnswersOr};
 ghost use Rattle.evbuf.specs.Refusals.{front_refusal};
 ghost use Rattle.evbuf.specs.Steps.{after_drain};
 ghost use Rattle.evbuf.specs.declared.fault.BufFault.TheVariants.{Memory};

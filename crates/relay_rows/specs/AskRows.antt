@@ -20,7 +20,8 @@ two_hooks = record usual { hooks = in_of 0 ∷ out_of 0 ∷ [] }
 abbrev pub end_and_fault_told : Trace
 end_and_fault_told =
     turn 0 ∷ poll ∷ opens 0
-    ∷ turn 1 ∷ poll ∷ wants_read (in_of 0) ∷ wants_read (out_of 0) ∷ can_read (in_of 0) ∷ gets (in_of 0) 16384 (97 ∷ []) ∷ fires (in_of 0) why.Read
+    ∷ turn 1 ∷ poll ∷ wants_read (in_of 0) ∷ wants_read (out_of 0) ∷ can_read (in_of 0) ∷ gets (in_of 0) 16384 (97 ∷ [])
+    ∷ fires (in_of 0) why.Read
     ∷ turn 2 ∷ poll ∷ wants_read (in_of 0) ∷ wants_both (out_of 0) ∷ can_read (in_of 0) ∷ can_write (out_of 0)
     ∷ ends (in_of 0) 16384 ∷ write_fails (out_of 0) 1 ∷ fires (in_of 0) (event 17) ∷ fires (out_of 0) (event 34)
     ∷ frees (out_of 0) cause.Failed 0 0 ∷ frees (in_of 0) cause.PeerGone 1 0 ∷ closes (in_of 0) ∷ closes (out_of 0)
@@ -32,8 +33,10 @@ connected_and_written =
     turn 0 ∷ poll ∷ opens_waiting 0
     ∷ turn 1 ∷ poll ∷ wants_read (in_of 0) ∷ wants_write (out_of 0) ∷ can_read (in_of 0) ∷ can_write (out_of 0)
     ∷ gets (in_of 0) 16384 (97 ∷ []) ∷ connect_waits (out_of 0) ∷ fires (in_of 0) why.Read
-    ∷ turn 2 ∷ poll ∷ wants_read (in_of 0) ∷ wants_write (out_of 0) ∷ can_write (out_of 0) ∷ connects (out_of 0) ∷ fires (out_of 0) why.Connected
-    ∷ turn 3 ∷ poll ∷ wants_read (in_of 0) ∷ wants_both (out_of 0) ∷ can_write (out_of 0) ∷ takes (out_of 0) 1 (97 ∷ []) ∷ fires (out_of 0) why.Write
+    ∷ turn 2 ∷ poll ∷ wants_read (in_of 0) ∷ wants_write (out_of 0) ∷ can_write (out_of 0) ∷ connects (out_of 0)
+    ∷ fires (out_of 0) why.Connected
+    ∷ turn 3 ∷ poll ∷ wants_read (in_of 0) ∷ wants_both (out_of 0) ∷ can_write (out_of 0) ∷ takes (out_of 0) 1 (97 ∷ [])
+    ∷ fires (out_of 0) why.Write
     ∷ []
 
 abbrev pub hook_and_timeouts_out : Settings
@@ -49,14 +52,16 @@ two_timeouts_joined =
     ∷ []
 
 abbrev pub hook_and_low_mark_in : Settings
-hook_and_low_mark_in = record usual { hooks = in_of 0 ∷ []; in_marks = record { read_low = 2; read_high = 0; write_low = 0; write_high = 0 } }
+hook_and_low_mark_in =
+    record usual { hooks = in_of 0 ∷ []; in_marks = record { read_low = 2; read_high = 0; write_low = 0; write_high = 0 } }
 
 -- The read reason comes with the second byte of one read, and not with the first of another.
 abbrev pub low_mark_reached : Trace
 low_mark_reached =
     turn 0 ∷ poll ∷ opens 0
     ∷ turn 1 ∷ poll ∷ wants_read (in_of 0) ∷ wants_read (out_of 0) ∷ can_read (in_of 0) ∷ gets (in_of 0) 16384 (97 ∷ [])
-    ∷ turn 2 ∷ poll ∷ wants_read (in_of 0) ∷ wants_both (out_of 0) ∷ can_read (in_of 0) ∷ gets (in_of 0) 16384 (97 ∷ 98 ∷ []) ∷ fires (in_of 0) why.Read
+    ∷ turn 2 ∷ poll ∷ wants_read (in_of 0) ∷ wants_both (out_of 0) ∷ can_read (in_of 0) ∷ gets (in_of 0) 16384 (97 ∷ 98 ∷ [])
+    ∷ fires (in_of 0) why.Read
     ∷ []
 
 -- A hook disables what its peer would write, and enables it a turn later.
@@ -67,14 +72,16 @@ writing_disabled_for_a_turn =
     ∷ fires (in_of 0) why.Read ∷ asks (in_of 0) (act.Disable (out_of 0) dir.Write) ask.Ok
     ∷ turn 2 ∷ poll ∷ wants_read (in_of 0) ∷ wants_read (out_of 0) ∷ can_read (in_of 0) ∷ gets (in_of 0) 16384 (98 ∷ [])
     ∷ fires (in_of 0) why.Read ∷ asks (in_of 0) (act.Enable (out_of 0) dir.Write) ask.Ok
-    ∷ turn 3 ∷ poll ∷ wants_read (in_of 0) ∷ wants_both (out_of 0) ∷ can_write (out_of 0) ∷ takes (out_of 0) 2 (97 ∷ 98 ∷ []) ∷ fires (out_of 0) why.Write
+    ∷ turn 3 ∷ poll ∷ wants_read (in_of 0) ∷ wants_both (out_of 0) ∷ can_write (out_of 0) ∷ takes (out_of 0) 2 (97 ∷ 98 ∷ [])
+    ∷ fires (out_of 0) why.Write
     ∷ []
 
 -- Asks are refused by the first rule that they break. A reference outlives its side, once.
 abbrev pub asks_refused : Trace
 asks_refused =
     turn 0 ∷ poll ∷ opens 0
-    ∷ turn 1 ∷ poll ∷ wants_read (in_of 0) ∷ wants_read (out_of 0) ∷ can_read (in_of 0) ∷ gets (in_of 0) 16384 (97 ∷ []) ∷ fires (in_of 0) why.Read
+    ∷ turn 1 ∷ poll ∷ wants_read (in_of 0) ∷ wants_read (out_of 0) ∷ can_read (in_of 0) ∷ gets (in_of 0) 16384 (97 ∷ [])
+    ∷ fires (in_of 0) why.Read
     ∷ asks (in_of 0) (act.Marks (in_of 0) dir.Read 0 (2 ^ 24 + 1)) ask.BadValue
     ∷ asks (in_of 0) (act.Marks (in_of 1) dir.Read 0 (2 ^ 24 + 1)) ask.NotLive
     ∷ asks (in_of 0) (act.Timeouts (in_of 0) (2 ^ 40 + 1) 0) ask.BadValue
@@ -109,9 +116,11 @@ limit_asked_for =
     turn 0 ∷ poll ∷ opens 0
     ∷ turn 1 ∷ poll ∷ wants_read (in_of 0) ∷ wants_read (out_of 0) ∷ can_read (in_of 0) ∷ gets (in_of 0) 16384 (97 ∷ [])
     ∷ fires (in_of 0) why.Read ∷ asks (in_of 0) (act.Rate (in_of 0) (Some ten_a_second)) ask.Ok
-    ∷ turn 2 ∷ poll ∷ wants_read (in_of 0) ∷ wants_both (out_of 0) ∷ can_read (in_of 0) ∷ gets (in_of 0) 10 (letters 10) ∷ fires (in_of 0) why.Read
+    ∷ turn 2 ∷ poll ∷ wants_read (in_of 0) ∷ wants_both (out_of 0) ∷ can_read (in_of 0) ∷ gets (in_of 0) 10 (letters 10)
+    ∷ fires (in_of 0) why.Read
     ∷ turn 3 ∷ poll_for 997 ∷ wants_both (out_of 0)
-    ∷ turn 1000 ∷ poll ∷ wants_read (in_of 0) ∷ wants_both (out_of 0) ∷ can_read (in_of 0) ∷ gets (in_of 0) 10 (letters 10) ∷ fires (in_of 0) why.Read
+    ∷ turn 1000 ∷ poll ∷ wants_read (in_of 0) ∷ wants_both (out_of 0) ∷ can_read (in_of 0) ∷ gets (in_of 0) 10 (letters 10)
+    ∷ fires (in_of 0) why.Read
     ∷ []
 
 abbrev pub hook_in_and_hex_out : Settings
@@ -121,7 +130,8 @@ hook_in_and_hex_out = record usual { out_write = kind.HexIn; hold = 1; hooks = i
 abbrev pub no_end_behind_a_free : Trace
 no_end_behind_a_free =
     turn 0 ∷ poll ∷ opens 0
-    ∷ turn 1 ∷ poll ∷ wants_read (in_of 0) ∷ wants_read (out_of 0) ∷ can_read (in_of 0) ∷ gets (in_of 0) 16384 (51 ∷ 52 ∷ 52 ∷ []) ∷ fires (in_of 0) why.Read
+    ∷ turn 1 ∷ poll ∷ wants_read (in_of 0) ∷ wants_read (out_of 0) ∷ can_read (in_of 0) ∷ gets (in_of 0) 16384 (51 ∷ 52 ∷ 52 ∷ [])
+    ∷ fires (in_of 0) why.Read
     ∷ turn 2 ∷ poll ∷ wants_read (in_of 0) ∷ wants_both (out_of 0) ∷ can_read (in_of 0) ∷ ends (in_of 0) 16384
     ∷ fires (in_of 0) (event 17) ∷ asks (in_of 0) (act.Timer (in_of 0) 1) ask.Ok
     ∷ turn 3 ∷ poll_for 0 ∷ wants_both (out_of 0) ∷ can_write (out_of 0) ∷ takes (out_of 0) 1 (52 ∷ [])

@@ -23,15 +23,18 @@ rest_given_after_a_free =
 abbrev pub both_end_at_once : Trace
 both_end_at_once =
     turn 0 ∷ poll ∷ opens 0
-    ∷ turn 1 ∷ poll ∷ wants_read (in_of 0) ∷ wants_read (out_of 0) ∷ can_read (in_of 0) ∷ can_read (out_of 0) ∷ ends (in_of 0) 16384 ∷ ends (out_of 0) 16384
-    ∷ ends_writing (out_of 0) ∷ ends_writing (in_of 0) ∷ frees (in_of 0) cause.Done 0 0 ∷ frees (out_of 0) cause.Done 0 0 ∷ closes (in_of 0) ∷ closes (out_of 0)
+    ∷ turn 1 ∷ poll ∷ wants_read (in_of 0) ∷ wants_read (out_of 0) ∷ can_read (in_of 0) ∷ can_read (out_of 0) ∷ ends (in_of 0) 16384
+    ∷ ends (out_of 0) 16384
+    ∷ ends_writing (out_of 0) ∷ ends_writing (in_of 0) ∷ frees (in_of 0) cause.Done 0 0 ∷ frees (out_of 0) cause.Done 0 0
+    ∷ closes (in_of 0) ∷ closes (out_of 0)
     ∷ []
 
 -- In ends while Out is connecting. Writing is ended at Out once it is connected.
 abbrev pub ended_before_it_connects : Trace
 ended_before_it_connects =
     turn 0 ∷ poll ∷ opens_waiting 0
-    ∷ turn 1 ∷ poll ∷ wants_read (in_of 0) ∷ wants_write (out_of 0) ∷ can_read (in_of 0) ∷ can_write (out_of 0) ∷ ends (in_of 0) 16384 ∷ connect_waits (out_of 0)
+    ∷ turn 1 ∷ poll ∷ wants_read (in_of 0) ∷ wants_write (out_of 0) ∷ can_read (in_of 0) ∷ can_write (out_of 0) ∷ ends (in_of 0) 16384
+    ∷ connect_waits (out_of 0)
     ∷ turn 2 ∷ poll ∷ wants_write (out_of 0) ∷ can_write (out_of 0) ∷ connects (out_of 0) ∷ ends_writing (out_of 0)
     ∷ []
 
@@ -72,7 +75,8 @@ bad_byte_while_held =
     ∷ []
 
 abbrev pub hex_in_marked_at_six : Settings
-hex_in_marked_at_six = record usual { in_read = kind.HexOut; in_marks = record { read_low = 0; read_high = 6; write_low = 0; write_high = 0 }; hold = 1 }
+hex_in_marked_at_six =
+    record usual { in_read = kind.HexOut; in_marks = record { read_low = 0; read_high = 6; write_low = 0; write_high = 0 }; hold = 1 }
 
 -- A read filter stops as soon as there are six bytes, and goes on once they are moved. Six more wait then, and In isn't wanted.
 abbrev pub read_filter_stops_at_the_mark : Trace

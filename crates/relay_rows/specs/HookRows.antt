@@ -34,7 +34,8 @@ three_hooks = record usual { hooks = in_of 0 ∷ in_of 1 ∷ in_of 2 ∷ [] }
 abbrev pub frees_another_link : Trace
 frees_another_link =
     turn 0 ∷ poll ∷ opens 0 ∷ opens 1 ∷ opens 2
-    ∷ turn 1 ∷ poll ∷ wants_read (in_of 0) ∷ wants_read (out_of 0) ∷ wants_read (in_of 1) ∷ wants_read (out_of 1) ∷ wants_read (in_of 2) ∷ wants_read (out_of 2)
+    ∷ turn 1 ∷ poll ∷ wants_read (in_of 0) ∷ wants_read (out_of 0) ∷ wants_read (in_of 1) ∷ wants_read (out_of 1) ∷ wants_read (in_of 2)
+    ∷ wants_read (out_of 2)
     ∷ can_read (in_of 0) ∷ can_read (in_of 1) ∷ can_read (in_of 2)
     ∷ gets (in_of 0) 16384 (97 ∷ []) ∷ gets (in_of 1) 16384 (98 ∷ []) ∷ gets (in_of 2) 16384 (99 ∷ [])
     ∷ fires (in_of 0) why.Read

@@ -16,17 +16,21 @@ use Rattle.relay_rows.specs.RowWords.{takes, fires, asks, ends_writing}
 abbrev pub marks_asked_for : Trace
 marks_asked_for =
     turn 0 ∷ poll ∷ opens 0
-    ∷ turn 1 ∷ poll ∷ wants_read (in_of 0) ∷ wants_read (out_of 0) ∷ can_read (in_of 0) ∷ gets (in_of 0) 16384 (97 ∷ []) ∷ fires (in_of 0) why.Read
+    ∷ turn 1 ∷ poll ∷ wants_read (in_of 0) ∷ wants_read (out_of 0) ∷ can_read (in_of 0) ∷ gets (in_of 0) 16384 (97 ∷ [])
+    ∷ fires (in_of 0) why.Read
     ∷ asks (in_of 0) (act.Marks (in_of 0) dir.Read 2 5) ask.Ok ∷ asks (in_of 0) (act.Marks (out_of 0) dir.Write 0 3) ask.Ok
-    ∷ turn 2 ∷ poll ∷ wants_read (in_of 0) ∷ wants_both (out_of 0) ∷ can_read (in_of 0) ∷ gets (in_of 0) 5 (98 ∷ 99 ∷ 100 ∷ 101 ∷ 102 ∷ []) ∷ fires (in_of 0) why.Read
+    ∷ turn 2 ∷ poll ∷ wants_read (in_of 0) ∷ wants_both (out_of 0) ∷ can_read (in_of 0)
+    ∷ gets (in_of 0) 5 (98 ∷ 99 ∷ 100 ∷ 101 ∷ 102 ∷ []) ∷ fires (in_of 0) why.Read
     ∷ turn 3 ∷ poll ∷ wants_read (in_of 0) ∷ wants_both (out_of 0) ∷ can_read (in_of 0) ∷ can_write (out_of 0)
     ∷ gets (in_of 0) 5 (103 ∷ []) ∷ takes (out_of 0) 3 (97 ∷ [])
     ∷ turn 4 ∷ poll ∷ wants_read (in_of 0) ∷ wants_both (out_of 0) ∷ can_write (out_of 0) ∷ takes (out_of 0) 2 (98 ∷ [])
-    ∷ turn 5 ∷ poll ∷ wants_read (in_of 0) ∷ wants_both (out_of 0) ∷ can_read (in_of 0) ∷ gets (in_of 0) 4 (104 ∷ []) ∷ fires (in_of 0) why.Read
+    ∷ turn 5 ∷ poll ∷ wants_read (in_of 0) ∷ wants_both (out_of 0) ∷ can_read (in_of 0) ∷ gets (in_of 0) 4 (104 ∷ [])
+    ∷ fires (in_of 0) why.Read
     ∷ []
 
 abbrev pub hook_and_low_mark_out : Settings
-hook_and_low_mark_out = record usual { hooks = out_of 0 ∷ []; out_marks = record { read_low = 0; read_high = 0; write_low = 1; write_high = 0 } }
+hook_and_low_mark_out =
+    record usual { hooks = out_of 0 ∷ []; out_marks = record { read_low = 0; read_high = 0; write_low = 1; write_high = 0 } }
 
 -- The write reason comes where one byte is left, and not where two are.
 abbrev pub write_low_mark_reached : Trace
@@ -34,7 +38,8 @@ write_low_mark_reached =
     turn 0 ∷ poll ∷ opens 0
     ∷ turn 1 ∷ poll ∷ wants_read (in_of 0) ∷ wants_read (out_of 0) ∷ can_read (in_of 0) ∷ gets (in_of 0) 16384 (97 ∷ 98 ∷ 99 ∷ [])
     ∷ turn 2 ∷ poll ∷ wants_read (in_of 0) ∷ wants_both (out_of 0) ∷ can_write (out_of 0) ∷ takes (out_of 0) 3 (97 ∷ [])
-    ∷ turn 3 ∷ poll ∷ wants_read (in_of 0) ∷ wants_both (out_of 0) ∷ can_write (out_of 0) ∷ takes (out_of 0) 2 (98 ∷ []) ∷ fires (out_of 0) why.Write
+    ∷ turn 3 ∷ poll ∷ wants_read (in_of 0) ∷ wants_both (out_of 0) ∷ can_write (out_of 0) ∷ takes (out_of 0) 2 (98 ∷ [])
+    ∷ fires (out_of 0) why.Write
     ∷ []
 
 abbrev pub hooks_of_two_links : Settings
@@ -44,9 +49,11 @@ hooks_of_two_links = record usual { hooks = in_of 0 ∷ in_of 1 ∷ [] }
 abbrev pub timers_in_order : Trace
 timers_in_order =
     turn 0 ∷ poll ∷ opens 0 ∷ opens 1
-    ∷ turn 1 ∷ poll ∷ wants_read (in_of 0) ∷ wants_read (out_of 0) ∷ wants_read (in_of 1) ∷ wants_read (out_of 1) ∷ can_read (in_of 0) ∷ can_read (in_of 1)
+    ∷ turn 1 ∷ poll ∷ wants_read (in_of 0) ∷ wants_read (out_of 0) ∷ wants_read (in_of 1) ∷ wants_read (out_of 1) ∷ can_read (in_of 0)
+    ∷ can_read (in_of 1)
     ∷ gets (in_of 0) 16384 (97 ∷ []) ∷ gets (in_of 1) 16384 (98 ∷ [])
-    ∷ fires (in_of 0) why.Read ∷ asks (in_of 0) (act.Timer (in_of 0) 20) ask.Ok ∷ fires (in_of 1) why.Read ∷ asks (in_of 1) (act.Timer (in_of 1) 10) ask.Ok
+    ∷ fires (in_of 0) why.Read ∷ asks (in_of 0) (act.Timer (in_of 0) 20) ask.Ok ∷ fires (in_of 1) why.Read
+    ∷ asks (in_of 1) (act.Timer (in_of 1) 10) ask.Ok
     ∷ turn 30 ∷ poll_for 0 ∷ wants_read (in_of 0) ∷ wants_both (out_of 0) ∷ wants_read (in_of 1) ∷ wants_both (out_of 1)
     ∷ fires (in_of 1) why.Timer ∷ fires (in_of 0) why.Timer
     ∷ []

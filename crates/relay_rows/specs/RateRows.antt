@@ -81,17 +81,28 @@ one_group = record usual { groups = record { cfg = hundred_a_second; share = 64 
 abbrev pub shared_by_three : Trace
 shared_by_three =
     turn 0 ∷ poll ∷ opens 0 ∷ opens 1 ∷ opens 2
-    ∷ turn 0 ∷ poll ∷ wants_read (in_of 0) ∷ wants_read (out_of 0) ∷ wants_read (in_of 1) ∷ wants_read (out_of 1) ∷ wants_read (in_of 2) ∷ wants_read (out_of 2)
+    ∷ turn 0 ∷ poll ∷ wants_read (in_of 0) ∷ wants_read (out_of 0) ∷ wants_read (in_of 1) ∷ wants_read (out_of 1) ∷ wants_read (in_of 2)
+    ∷ wants_read (out_of 2)
     ∷ can_read (in_of 0) ∷ can_read (in_of 1) ∷ can_read (in_of 2) ∷ gets (in_of 0) 64 (letters 64) ∷ gets (in_of 1) 64 (letters 64)
-    ∷ turn 1000 ∷ poll ∷ wants_read (in_of 0) ∷ wants_both (out_of 0) ∷ wants_read (in_of 1) ∷ wants_both (out_of 1) ∷ wants_read (in_of 2) ∷ wants_read (out_of 2)
+    ∷ turn 1000 ∷ poll ∷ wants_read (in_of 0) ∷ wants_both (out_of 0) ∷ wants_read (in_of 1) ∷ wants_both (out_of 1)
+    ∷ wants_read (in_of 2) ∷ wants_read (out_of 2)
     ∷ can_read (in_of 0) ∷ can_read (in_of 1) ∷ can_read (in_of 2) ∷ gets (in_of 0) 64 (letters 36) ∷ gets (in_of 1) 64 (letters 36)
-    ∷ turn 2000 ∷ poll ∷ wants_read (in_of 0) ∷ wants_both (out_of 0) ∷ wants_read (in_of 1) ∷ wants_both (out_of 1) ∷ wants_read (in_of 2) ∷ wants_read (out_of 2)
+    ∷ turn 2000 ∷ poll ∷ wants_read (in_of 0) ∷ wants_both (out_of 0) ∷ wants_read (in_of 1) ∷ wants_both (out_of 1)
+    ∷ wants_read (in_of 2) ∷ wants_read (out_of 2)
     ∷ can_read (in_of 2) ∷ gets (in_of 2) 64 (letters 64)
     ∷ []
 
 -- 70 bytes a tick and 100 at once
 abbrev pub seventy_a_second : LimitCfg
-seventy_a_second = record hundred_a_second { read_rate = 70; write_rate = 70; reads = lit< tt; read_within = lit≤ tt; writes = lit< tt; write_within = lit≤ tt }
+seventy_a_second = record hundred_a_second {
+  read_rate = 70;
+  write_rate = 70;
+  reads = lit< tt;
+  read_within = lit≤ tt;
+  writes =
+      lit< tt;
+  write_within = lit≤ tt;
+}
 
 abbrev pub small_group : Settings
 small_group = record usual { groups = record { cfg = seventy_a_second; share = 64 } ∷ []; in_group = Some 0 }

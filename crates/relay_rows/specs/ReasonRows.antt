@@ -20,9 +20,11 @@ abbrev pub reasons_in_order : Trace
 reasons_in_order =
     turn 0 ∷ poll ∷ opens 0
     ∷ turn 1 ∷ poll ∷ wants_read (in_of 0) ∷ wants_read (out_of 0) ∷ can_read (in_of 0) ∷ can_read (out_of 0)
-    ∷ gets (in_of 0) 16384 (97 ∷ []) ∷ gets (out_of 0) 16384 (98 ∷ []) ∷ fires (out_of 0) why.Read ∷ asks (out_of 0) (act.Timer (out_of 0) 9) ask.Ok
+    ∷ gets (in_of 0) 16384 (97 ∷ []) ∷ gets (out_of 0) 16384 (98 ∷ []) ∷ fires (out_of 0) why.Read
+    ∷ asks (out_of 0) (act.Timer (out_of 0) 9) ask.Ok
     ∷ turn 10 ∷ poll_for 0 ∷ wants_both (in_of 0) ∷ wants_both (out_of 0) ∷ can_both (out_of 0)
-    ∷ gets (out_of 0) 16384 (99 ∷ []) ∷ takes (out_of 0) 1 (97 ∷ []) ∷ fires (out_of 0) why.Read ∷ fires (out_of 0) why.Write ∷ fires (out_of 0) why.Timer
+    ∷ gets (out_of 0) 16384 (99 ∷ []) ∷ takes (out_of 0) 1 (97 ∷ []) ∷ fires (out_of 0) why.Read ∷ fires (out_of 0) why.Write
+    ∷ fires (out_of 0) why.Timer
     ∷ []
 
 abbrev pub two_links : Settings
@@ -34,24 +36,29 @@ first_due_first_fired =
     turn 0 ∷ poll ∷ opens 0 ∷ opens 1
     ∷ turn 1 ∷ poll ∷ wants_read (in_of 0) ∷ wants_read (out_of 0) ∷ wants_read (in_of 1) ∷ wants_read (out_of 1) ∷ can_read (in_of 1)
     ∷ gets (in_of 1) 16384 (97 ∷ []) ∷ fires (in_of 1) why.Read ∷ asks (in_of 1) (act.Timer (in_of 1) 9) ask.Ok
-    ∷ turn 10 ∷ poll_for 0 ∷ wants_read (in_of 0) ∷ wants_read (out_of 0) ∷ wants_read (in_of 1) ∷ wants_both (out_of 1) ∷ can_read (in_of 0) ∷ can_read (in_of 1)
-    ∷ gets (in_of 0) 16384 (98 ∷ []) ∷ gets (in_of 1) 16384 (99 ∷ []) ∷ fires (in_of 1) why.Read ∷ fires (in_of 1) why.Timer ∷ fires (in_of 0) why.Read
+    ∷ turn 10 ∷ poll_for 0 ∷ wants_read (in_of 0) ∷ wants_read (out_of 0) ∷ wants_read (in_of 1) ∷ wants_both (out_of 1)
+    ∷ can_read (in_of 0) ∷ can_read (in_of 1)
+    ∷ gets (in_of 0) 16384 (98 ∷ []) ∷ gets (in_of 1) 16384 (99 ∷ []) ∷ fires (in_of 1) why.Read ∷ fires (in_of 1) why.Timer
+    ∷ fires (in_of 0) why.Read
     ∷ []
 
 -- The hook of the second link stops the run. What it asks in the same fire is done still, and a link whose side it frees isn't closed.
 abbrev pub asks_behind_a_stop : Trace
 asks_behind_a_stop =
     turn 0 ∷ poll ∷ opens 0 ∷ opens 1
-    ∷ turn 1 ∷ poll ∷ wants_read (in_of 0) ∷ wants_read (out_of 0) ∷ wants_read (in_of 1) ∷ wants_read (out_of 1) ∷ can_read (in_of 0) ∷ can_read (in_of 1)
+    ∷ turn 1 ∷ poll ∷ wants_read (in_of 0) ∷ wants_read (out_of 0) ∷ wants_read (in_of 1) ∷ wants_read (out_of 1) ∷ can_read (in_of 0)
+    ∷ can_read (in_of 1)
     ∷ gets (in_of 0) 16384 (97 ∷ []) ∷ gets (in_of 1) 16384 (98 ∷ []) ∷ fires (in_of 0) why.Read ∷ fires (in_of 1) why.Read
-    ∷ asks (in_of 1) act.Stop ask.Ok ∷ asks (in_of 1) (act.Free (in_of 1)) ask.Ok ∷ frees (in_of 1) cause.Hook 0 0 ∷ asks (in_of 1) act.Stop ask.Ok
+    ∷ asks (in_of 1) act.Stop ask.Ok ∷ asks (in_of 1) (act.Free (in_of 1)) ask.Ok ∷ frees (in_of 1) cause.Hook 0 0
+    ∷ asks (in_of 1) act.Stop ask.Ok
     ∷ []
 
 -- What is due for a side, and its timer, go with the side.
 abbrev pub forgotten_with_the_side : Trace
 forgotten_with_the_side =
     turn 0 ∷ poll ∷ opens 0
-    ∷ turn 1 ∷ poll ∷ wants_read (in_of 0) ∷ wants_read (out_of 0) ∷ can_read (in_of 0) ∷ gets (in_of 0) 16384 (97 ∷ []) ∷ fires (in_of 0) why.Read
+    ∷ turn 1 ∷ poll ∷ wants_read (in_of 0) ∷ wants_read (out_of 0) ∷ can_read (in_of 0) ∷ gets (in_of 0) 16384 (97 ∷ [])
+    ∷ fires (in_of 0) why.Read
     ∷ asks (in_of 0) (act.Trigger (in_of 0) dir.Read) ask.Ok ∷ asks (in_of 0) (act.Timer (in_of 0) 5) ask.Ok
     ∷ asks (in_of 0) (act.Free (in_of 0)) ask.Ok ∷ frees (in_of 0) cause.Hook 0 0
     ∷ frees (out_of 0) cause.PeerGone 0 0 ∷ closes (in_of 0) ∷ closes (out_of 0)
@@ -76,7 +83,8 @@ timeout_asked_for =
     turn 0 ∷ poll ∷ opens 0
     ∷ turn 10 ∷ poll ∷ wants_read (in_of 0) ∷ wants_read (out_of 0) ∷ can_read (in_of 0) ∷ gets (in_of 0) 16384 (97 ∷ [])
     ∷ fires (in_of 0) why.Read ∷ asks (in_of 0) (act.Timer (in_of 0) 100) ask.Ok ∷ asks (in_of 0) (act.Timeouts (out_of 0) 0 1100) ask.Ok
-    ∷ turn 110 ∷ poll_for 0 ∷ wants_read (in_of 0) ∷ wants_both (out_of 0) ∷ fires (in_of 0) why.Timer ∷ asks (in_of 0) (act.Timeouts (in_of 0) 1000 0) ask.Ok
+    ∷ turn 110 ∷ poll_for 0 ∷ wants_read (in_of 0) ∷ wants_both (out_of 0) ∷ fires (in_of 0) why.Timer
+    ∷ asks (in_of 0) (act.Timeouts (in_of 0) 1000 0) ask.Ok
     ∷ turn 200 ∷ poll_for 910 ∷ wants_read (in_of 0) ∷ wants_both (out_of 0)
     ∷ []
 
@@ -93,7 +101,8 @@ group_joined_and_left =
     ∷ fires (in_of 0) why.Read
     ∷ turn 3 ∷ poll ∷ wants_read (in_of 0) ∷ wants_both (out_of 0) ∷ can_read (in_of 0) ∷ gets (in_of 0) 70 (letters 2)
     ∷ fires (in_of 0) why.Read ∷ asks (in_of 0) (act.Leave (in_of 0)) ask.Ok
-    ∷ turn 4 ∷ poll ∷ wants_read (in_of 0) ∷ wants_both (out_of 0) ∷ can_read (in_of 0) ∷ gets (in_of 0) 16384 (letters 1) ∷ fires (in_of 0) why.Read
+    ∷ turn 4 ∷ poll ∷ wants_read (in_of 0) ∷ wants_both (out_of 0) ∷ can_read (in_of 0) ∷ gets (in_of 0) 16384 (letters 1)
+    ∷ fires (in_of 0) why.Read
     ∷ []
 
 abbrev pub hook_of_a_member : Settings
@@ -123,5 +132,6 @@ limit_changed =
     ∷ fires (in_of 0) why.Read ∷ asks (in_of 0) (act.Rate (in_of 0) None) ask.Ok
     ∷ turn 3 ∷ poll ∷ wants_read (in_of 0) ∷ wants_both (out_of 0) ∷ can_read (in_of 0) ∷ gets (in_of 0) 16384 (letters 1)
     ∷ fires (in_of 0) why.Read ∷ asks (in_of 0) (act.Rate (in_of 0) (Some ten_a_second)) ask.Ok
-    ∷ turn 4 ∷ poll ∷ wants_read (in_of 0) ∷ wants_both (out_of 0) ∷ can_read (in_of 0) ∷ gets (in_of 0) 10 (letters 4) ∷ fires (in_of 0) why.Read
+    ∷ turn 4 ∷ poll ∷ wants_read (in_of 0) ∷ wants_both (out_of 0) ∷ can_read (in_of 0) ∷ gets (in_of 0) 10 (letters 4)
+    ∷ fires (in_of 0) why.Read
     ∷ []

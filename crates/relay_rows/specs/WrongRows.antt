@@ -26,7 +26,8 @@ got_two = marked ++ gets (in_of 0) 16384 (104 ∷ 105 ∷ []) ∷ []
 
 -- In ends in the next turn, and Out is ready to take.
 abbrev ended : Trace
-ended = got_two ++ turn 2 ∷ poll ∷ wants_read (in_of 0) ∷ wants_both (out_of 0) ∷ can_read (in_of 0) ∷ can_write (out_of 0) ∷ ends (in_of 0) 16384 ∷ []
+ended = got_two ++ turn 2 ∷ poll ∷ wants_read (in_of 0) ∷ wants_both (out_of 0) ∷ can_read (in_of 0) ∷ can_write (out_of 0)
+    ∷ ends (in_of 0) 16384 ∷ []
 
 -- Of the turn's frame
 
@@ -80,7 +81,8 @@ abbrev pub output_of_a_freed_side_dropped : Wrong
 output_of_a_freed_side_dropped =
     wrong hook_in
     (marked ++ gets (in_of 0) 16384 (104 ∷ 105 ∷ []) ∷ fires (in_of 0) why.Read
-    ∷ turn 2 ∷ poll ∷ wants_read (in_of 0) ∷ wants_both (out_of 0) ∷ can_read (in_of 0) ∷ gets (in_of 0) 16384 (97 ∷ []) ∷ fires (in_of 0) why.Read
+    ∷ turn 2 ∷ poll ∷ wants_read (in_of 0) ∷ wants_both (out_of 0) ∷ can_read (in_of 0) ∷ gets (in_of 0) 16384 (97 ∷ [])
+    ∷ fires (in_of 0) why.Read
     ∷ asks (in_of 0) (act.Free (in_of 0)) ask.Ok ∷ frees (in_of 0) cause.Hook 2 0 ∷ [])
     (frees (out_of 0) cause.PeerGone 0 0)
 
@@ -97,7 +99,8 @@ live_end_closed = wrong usual got_two (closes (in_of 0))
 
 abbrev pub wrong_cause : Wrong
 wrong_cause =
-    wrong timeout_in (opened ++ turn 500 ∷ poll_for 500 ∷ wants_read (in_of 0) ∷ wants_read (out_of 0) ∷ turn 1000 ∷ poll_for 0 ∷ wants_read (out_of 0) ∷ [])
+    wrong timeout_in (opened ++ turn 500 ∷ poll_for 500 ∷ wants_read (in_of 0) ∷ wants_read (out_of 0) ∷ turn 1000 ∷ poll_for 0
+    ∷ wants_read (out_of 0) ∷ [])
     (frees (in_of 0) cause.Failed 0 0)
 
 -- Of hooks
@@ -107,7 +110,8 @@ abbrev pub fired_on_a_freed_side : Wrong
 fired_on_a_freed_side =
     wrong three_hooks
     (turn 0 ∷ poll ∷ opens 0 ∷ opens 1 ∷ opens 2
-    ∷ turn 1 ∷ poll ∷ wants_read (in_of 0) ∷ wants_read (out_of 0) ∷ wants_read (in_of 1) ∷ wants_read (out_of 1) ∷ wants_read (in_of 2) ∷ wants_read (out_of 2)
+    ∷ turn 1 ∷ poll ∷ wants_read (in_of 0) ∷ wants_read (out_of 0) ∷ wants_read (in_of 1) ∷ wants_read (out_of 1) ∷ wants_read (in_of 2)
+    ∷ wants_read (out_of 2)
     ∷ can_read (in_of 0) ∷ can_read (in_of 1) ∷ can_read (in_of 2)
     ∷ gets (in_of 0) 16384 (97 ∷ []) ∷ gets (in_of 1) 16384 (98 ∷ []) ∷ gets (in_of 2) 16384 (99 ∷ [])
     ∷ fires (in_of 0) why.Read ∷ asks (in_of 0) (act.Free (in_of 2)) ask.Ok ∷ frees (in_of 2) cause.Hook 0 0
@@ -120,7 +124,8 @@ hook_out = record usual { hooks = out_of 0 ∷ [] }
 -- one byte is left, and the write low mark is 0
 abbrev pub write_reason_above_the_low_mark : Wrong
 write_reason_above_the_low_mark =
-    wrong hook_out (got_two ++ turn 2 ∷ poll ∷ wants_read (in_of 0) ∷ wants_both (out_of 0) ∷ can_write (out_of 0) ∷ takes (out_of 0) 2 (104 ∷ []) ∷ [])
+    wrong hook_out (got_two ++ turn 2 ∷ poll ∷ wants_read (in_of 0) ∷ wants_both (out_of 0) ∷ can_write (out_of 0)
+    ∷ takes (out_of 0) 2 (104 ∷ []) ∷ [])
     (fires (out_of 0) why.Write)
 
 abbrev pub fired_without_a_reason : Wrong

@@ -141,8 +141,7 @@ impl Waits {
     }
 
     /// Sets the timer of a side to a deadline, in milliseconds; it takes the place of the one that the side has. It comes behind
-    /// those with the same deadline. Takes memory; the place is found in the logarithm of the
-    /// number of timers, and up to half of them are moved in memory, and again where the old one is taken out.
+    /// those with the same deadline. Takes memory; logarithmic in the number of timers.
     ///
     /// Refused for want of memory, and once 2^64 - 1 timers were set; then nothing has changed.
     ///
@@ -167,7 +166,7 @@ impl Waits {
     }
 
     /// Takes out the first timer whose deadline is at most now, in milliseconds, and answers its side: None where none is due.
-    /// Takes no memory; constant cost.
+    /// Takes no memory; logarithmic in the number of timers.
     ///
     /// Own.
     pub fn take_due(&mut self, now: u64) -> Option<SideId>
@@ -181,7 +180,7 @@ impl Waits {
         self.timers.take_due(now)
     }
 
-    /// The earliest deadline of all timers, or None where none waits. Takes no memory; constant cost.
+    /// The earliest deadline of all timers, or None where none waits. Takes no memory; logarithmic in the number of timers.
     ///
     /// Own.
     pub fn next_deadline(&self) -> Option<u64>

@@ -1,7 +1,7 @@
 // Bytes that go from a buffer of one bufferevent to a buffer of another: they pass to that of the same direction, or cross to that of
 // the other one.
 ghost use Rattle.std.specs.Prelude.{◌≡◌, ◌≤◌, [], length, min, None, OnOk, OnErr, IfOk};
-ghost use Rattle.evbuf_chain.specs.Answers.{AnswersOr, fault_of};
+ghost use Rattle.byte_queue.specs.MemoryAnswers.{AnswersOr, fault_of};
 ghost use Rattle.bev_core.specs.Moves.{GoesInto, BytesGo, opposite};
 ghost use Rattle.bev_core.specs.Refusals.{length_refusal};
 ghost use Rattle.bev_core.specs.Steps.{held, with_held};

@@ -1,7 +1,7 @@
 // Room that is made in a buffer before, and bytes that come into it.
 ghost use Rattle.std.specs.Prelude.{◌≡◌, ◌≤◌, ◌+◌, length, max, OnOk, OnErr};
-ghost use Rattle.evbuf_chain.specs.Answers.{AnswersOr};
-ghost use Rattle.evbuf_chain.specs.Buffered.{most_spare};
+ghost use Rattle.byte_queue.specs.MemoryAnswers.{AnswersOr};
+ghost use Rattle.byte_queue.specs.QueuedBytes.{most_spare};
 ghost use Rattle.bev_core.specs.Refusals.{live_refusal};
 ghost use Rattle.bev_core.specs.Steps.{held, with_held, more, fed_reserved};
 ghost use Rattle.bev_core.specs.declared.fault.BevFault.TheVariants.{Memory};
@@ -70,7 +70,6 @@ impl Bev {
         ensures fed { self.new ≡ record self.old { input = more self.old.input bytes.now self.new.input.spare } }
         ensures most { self.new.input.spare ≤ max spare.old (most_spare self.old.input.spare 0 (length self.old.input.bytes)) }
     {
-        self.input.find_room(bytes.len(), &mut spare.buffer);
-        self.input.feed_reserved(bytes);
+        self.input.feed_or_swap(bytes, &mut spare.buffer);
     }
 }

@@ -1,6 +1,6 @@
 // What happens to a bufferevent, for which its callback becomes due.
 ghost use Rattle.std.specs.Prelude.{◌≡◌, false, OnOk, OnErr, IfOk};
-ghost use Rattle.evbuf_chain.specs.Answers.{fault_of};
+ghost use Rattle.byte_queue.specs.MemoryAnswers.{fault_of};
 ghost use Rattle.ev_types.specs.declared.why.Why.TheVariants as why_of;
 ghost use Rattle.bev_core.specs.BevValue.{reaches_low};
 ghost use Rattle.bev_core.specs.Steps.{with_enabled, ended_at, failed_at};

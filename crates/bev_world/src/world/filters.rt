@@ -1,6 +1,6 @@
 // Bytes that go through the filters of a filter bufferevent.
 ghost use Rattle.std.specs.Prelude.{◌≡◌, ◌<◌, ◌&&◌, nat_lt, true, None, Some, length, slice_index_or, slice_set, IfOk};
-ghost use Rattle.evbuf_chain.specs.Answers.{fault_of};
+ghost use Rattle.byte_queue.specs.MemoryAnswers.{fault_of};
 ghost use Rattle.token_bucket.specs.declared.limit.Dir.TheVariants as dir_of;
 ghost use Rattle.bev_core.specs.BevValue.{reaches_low};
 ghost use Rattle.bev_world.specs.Filters.{IsOpen, PassedAt, PassedOr, AnswersPass, pass_refusal, under_of, crossing};

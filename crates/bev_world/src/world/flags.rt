@@ -1,6 +1,6 @@
 // What is enabled, the marks, the timeouts and the references.
 ghost use Rattle.std.specs.Prelude.{◌≡◌, ◌≤◌, ◌<◌, ◌+◌, ◌-◌, true, false, OnOk, OnErr};
-ghost use Rattle.evbuf_chain.specs.Answers.{AnswersOr, fault_of};
+ghost use Rattle.byte_queue.specs.MemoryAnswers.{AnswersOr, fault_of};
 ghost use Rattle.bev_core.specs.Steps.{with_enabled, with_marks, with_timeouts, touched};
 ghost use Rattle.bev_world.specs.Refusals.{live_refusal, incref_refusal, decref_refusal};
 ghost use Rattle.bev_world.specs.declared.fault.WorldFault.TheVariants.{Memory};

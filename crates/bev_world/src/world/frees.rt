@@ -1,6 +1,6 @@
 // The free of a bufferevent, and of those under it.
 ghost use Rattle.std.specs.Prelude.{◌≡◌, ◌<◌, ◌+◌, true, None, OnOk, OnErr, IfSome, if◌then◌else◌, length};
-ghost use Rattle.evbuf_chain.specs.Answers.{fault_of};
+ghost use Rattle.byte_queue.specs.MemoryAnswers.{fault_of};
 ghost use Rattle.bev_world.specs.Frees.{Frees, freed_one, live_under};
 ghost use Rattle.bev_world.specs.Refusals.{live_refusal};
 ghost use Rattle.bev_world.specs.Went.{Went};

@@ -1,7 +1,7 @@
 // Bytes that are written to a bufferevent and taken from it, and what then goes from one half of a pair to the other.
 ghost use Rattle.std.specs.Prelude.{◌≡◌, ◌≢◌, ◌≤◌, ◌<◌, ◌++◌, ◌&&◌, nat_lt, true, None, Some, length, min, take, drop, OnOk, OnErr, IfOk};
 ghost use Rattle.std.specs.Prelude.{IfSome};
-ghost use Rattle.evbuf_chain.specs.Answers.{AnswersOr, fault_of};
+ghost use Rattle.byte_queue.specs.MemoryAnswers.{AnswersOr, fault_of};
 ghost use Rattle.bev_core.specs.BevValue.{new_bev, reaches_low};
 ghost use Rattle.bev_world.specs.declared.fault.WorldFault.TheVariants.{Memory};
 ghost use Rattle.bev_world.specs.Halves.{WrittenTo, TakenFrom, Roomier, with_spare, passed_on, appended, shortened, other_half, count_with};

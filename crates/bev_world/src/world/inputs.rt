@@ -1,6 +1,6 @@
 // Bytes that go from the input of one bufferevent to the output of another.
 ghost use Rattle.std.specs.Prelude.{◌≡◌, ◌≢◌, ◌≤◌, ◌<◌, ◌+◌, ◌^◌, true, None, Some, length, OnOk, OnErr, IfOk};
-ghost use Rattle.evbuf_chain.specs.Answers.{AnswersOr, fault_of};
+ghost use Rattle.byte_queue.specs.MemoryAnswers.{AnswersOr, fault_of};
 ghost use Rattle.bev_world.specs.declared.fault.WorldFault.TheVariants.{Memory};
 ghost use Rattle.bev_world.specs.Passed.{moved_input, move_refusal};
 ghost use Rattle.bev_world.specs.Halves.{appended, shortened};

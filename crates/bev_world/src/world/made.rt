@@ -1,7 +1,7 @@
 // How bufferevents are made, each under the next number.
 ghost use Rattle.std.specs.Prelude.{◌≡◌, ◌≤◌, ◌<◌, ◌+◌, ◌^◌, ◌∷◌, [], length, None, OnOk, OnErr, IfOk, IsOk};
 ghost use Rattle.bev_world.specs.WorldView.{IsNew};
-ghost use Rattle.evbuf_chain.specs.Answers.{AnswersOr, fault_of};
+ghost use Rattle.byte_queue.specs.MemoryAnswers.{AnswersOr, fault_of};
 ghost use Rattle.ev_types.specs.declared.filter.FilterKind.TheVariants as filter_of;
 ghost use Rattle.bev_world.specs.declared.slot.Kind.TheVariants as kind_of;
 ghost use Rattle.bev_world.specs.declared.fault.WorldFault.TheVariants.{Memory};

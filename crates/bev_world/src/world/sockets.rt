@@ -1,6 +1,6 @@
 // The bytes that a socket brings and takes.
 ghost use Rattle.std.specs.Prelude.{◌≡◌, ◌≤◌, ◌<◌, ◌-◌, ◌&&◌, true, false, nat_lt, length, OnOk, OnErr, IfOk};
-ghost use Rattle.evbuf_chain.specs.Answers.{AnswersOr, fault_of};
+ghost use Rattle.byte_queue.specs.MemoryAnswers.{AnswersOr, fault_of};
 ghost use Rattle.bev_core.specs.BevValue.{reaches_low};
 ghost use Rattle.token_bucket.specs.declared.limit.Dir.TheVariants as dir_of;
 ghost use Rattle.bev_world.specs.declared.fault.WorldFault.TheVariants.{Memory};

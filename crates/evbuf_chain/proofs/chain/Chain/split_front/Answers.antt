@@ -1,4 +1,4 @@
-use Rattle.std.proofs.Common.{◌≡◌, length, take, drop, min, ap, sym, ◌∙◌, arith}
+use Rattle.std.proofs.Common.{◌≡◌, refl, length, take, drop, min, ap, sym, ◌∙◌, arith}
 use Rattle.std.proofs.lemmas.List.{drop_min, length-take}
 use Rattle.evbuf_chain.specs.Buffered.{Buffered}
 use Rattle.evbuf_chain.specs.Mark.{uncut_marks}
@@ -19,8 +19,8 @@ invariant_of-to-2 c =
     let n = c.min-n.result in
     let bytes = length c.self.inside.bytes.items in
     let marks = uncut_marks (take n (marks_of bytes c.self.inside.marks)) in
-    grown-length c.reserve_moved.new.to c.move_front.new.to c.reserve.new.self.items c.push.new.self.items
-    c.split_at.result.0.now marks n c.push.ensures.items c.split_at.ensures.front_len
+    grown-length c.reserve_moved.new.to c.move_front.new.to c.to.inside.bytes.items c.append.new.self.items
+    c.split_at.result.0.now marks n c.in_ok-append.ensures.items c.split_at.ensures.front_len
     (omega (
       arith,
       length-uncut_marks (take n (marks_of bytes c.self.inside.marks)),
@@ -29,9 +29,9 @@ invariant_of-to-2 c =
       c.min-n.ensures,
       c.len.ensures.len,
     ))
-    (same-length c.to.inside.marks c.reserve_moved.new.to c.to.inside.bytes.items c.reserve.new.self.items c.len-2.result
-    c.len-2.ensures.len c.in_ok-reserve.ensures.items c.in_ok-reserve_moved.ensures.marks c.to.invariant)
-    (c.move_front.ensures.moved bytes (length c.reserve.new.self.items) (omega (arith, c.min-n.ensures, c.len.ensures.len))).1
+    (same-length c.to.inside.marks c.reserve_moved.new.to c.to.inside.bytes.items c.to.inside.bytes.items c.len-2.result
+    c.len-2.ensures.len refl c.in_ok-reserve_moved.ensures.marks c.to.invariant)
+    (c.move_front.ensures.moved bytes (length c.to.inside.bytes.items) (omega (arith, c.min-n.ensures, c.len.ensures.len))).1
 
 pub returns-clause-marks : goal.returns-clause-marks
 returns-clause-marks c =

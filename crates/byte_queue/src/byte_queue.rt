@@ -25,11 +25,11 @@ pub struct ByteQueue {
 }
 
 impl Model for ByteQueue {
-    ghost use Rattle.evbuf_chain.specs.Inner.{Queued};
+    ghost use Rattle.byte_queue.specs.QueuedBytes.{Queued};
 
     ghost Value = { Queued };
 
-    ghost use Rattle.evbuf_chain.specs.Views.{queued, IsQueue};
+    ghost use Rattle.byte_queue.specs.QueueView.{queued, IsQueue};
 
     ghost view = { queued };
 
@@ -37,7 +37,7 @@ impl Model for ByteQueue {
 }
 
 impl ByteQueue {
-    ghost use Rattle.evbuf_chain.specs.Inner.{given_up_room, room_in_all};
+    ghost use Rattle.byte_queue.specs.QueuedBytes.{given_up_room, room_in_all, most_spare};
 
     /// An empty queue. Takes no memory; constant.
     pub fn new(alloc: Global) -> ByteQueue
@@ -61,7 +61,10 @@ impl ByteQueue {
         self.end - self.start
     }
 
-    pub(crate) fn allocator(&self) -> Global {
+    /// The allocator that it was made with. Takes no memory; constant.
+    ///
+    /// Own.
+    pub fn allocator(&self) -> Global {
         *self.kept.allocator()
     }
 
@@ -88,30 +91,52 @@ impl ByteQueue {
         ensures items { self.new.items ≡ self.old.items }
         ensures room { OnOk result (n ≤ self.new.spare) }
         ensures kept { self.old.spare ≤ self.new.spare }
-        ensures most { self.new.spare ≤ max self.old.spare (self.old.front + max n (self.old.front + length self.old.items)) }
+        ensures most { self.new.spare ≤ most_spare self.old.spare n (length self.old.items) }
         ensures err { OnErr result (self.new ≡ self.old) }
     {
         if self.spare() >= n {
             return Ok(());
         }
         let twice = self.start.saturating_add(n.max(self.end));
-        if self.move_before(twice).is_ok() {
+        if self.move_before(&[], twice).is_ok() {
             return Ok(());
         }
-        self.move_before(n)
+        self.move_before(&[], n)
     }
 
-    // Moves the bytes to a block with so much room behind them and none in front. After a refusal nothing has changed.
-    fn move_before(&mut self, spare: usize) -> Result<(), AllocError>
-        ensures items { self.new.items ≡ self.old.items }
+    // Moves the bytes to a block of their own, with more bytes and so much room behind them and no room in front. After a refusal
+    // nothing has changed.
+    fn move_before(&mut self, more: &[u8], spare: usize) -> Result<(), AllocError>
+        ensures items { OnOk result (self.new.items ≡ self.old.items ++ more.now) }
+        ensures front { OnOk result (self.new.front ≡ 0) }
         ensures spare { OnOk result (self.new.spare ≡ spare) }
         ensures err { OnErr result (self.new ≡ self.old) }
     {
-        let len = self.len();
-        self.kept = block(self.allocator(), 0, &[], self.as_slice(), spare)?;
+        self.kept = block(self.allocator(), 0, self.as_slice(), more, spare)?;
         self.start = 0;
-        self.end = len;
+        self.end = self.kept.len() - spare;
         Ok(())
+    }
+
+    /// Appends: in the room that is there, or in a block of its own that is made for the bytes of both, with room behind them so that
+    /// appending in pieces stays linear, or with none where no more can be had. An empty queue gets no room more. Takes memory where
+    /// there is less room. After a refusal nothing has changed. Linear in the bytes, over many calls.
+    pub fn append(&mut self, bytes: &[u8]) -> Result<(), AllocError>
+        ensures items { OnOk result (self.new.items ≡ self.old.items ++ bytes.now) }
+        ensures most { self.new.spare ≤ most_spare self.old.spare 0 (length self.old.items) }
+        ensures err { OnErr result (self.new ≡ self.old) }
+    {
+        if bytes.len() <= self.spare() {
+            self.push(bytes);
+            return Ok(());
+        }
+        let spare = self
+            .start
+            .saturating_add(self.end.saturating_sub(bytes.len()));
+        if self.move_before(bytes, spare).is_ok() {
+            return Ok(());
+        }
+        self.move_before(bytes, 0)
     }
 
     /// Appends in room that was made before. Takes no memory; linear in the number of bytes that are appended.
@@ -133,6 +158,7 @@ impl ByteQueue {
         ensures spare { self.old.spare ≤ self.new.spare }
         ensures room { room_in_all self.new ≡ room_in_all self.old }
         ensures front { self.new.front ≤ 3 * length self.new.items }
+        ensures most { length self.new.items + self.new.spare ≤ self.old.spare + 4 * length self.old.items }
     {
         self.start += n;
         if self.end - self.start <= self.start / SPARSE {
@@ -159,8 +185,10 @@ impl ByteQueue {
         self.drop_front(n);
     }
 
-    /// Frees the room where there is no byte. Takes no memory.
-    pub(crate) fn give_up(&mut self)
+    /// Frees the room where there is no byte. Takes no memory; constant.
+    ///
+    /// Own.
+    pub fn give_up(&mut self)
         ensures { self.new ≡ given_up_room self.old }
     {
         if self.end == self.start {
@@ -171,8 +199,9 @@ impl ByteQueue {
         }
     }
 
-    /// Puts bytes in front. After a refusal nothing has changed.
-    pub(crate) fn prepend(&mut self, bytes: &[u8]) -> Result<(), AllocError>
+    /// Puts bytes in front. Takes memory where there is less room there. After a refusal nothing has changed. Linear in the bytes, over
+    /// many calls.
+    pub fn prepend(&mut self, bytes: &[u8]) -> Result<(), AllocError>
         ensures items { OnOk result (self.new.items ≡ bytes.now ++ self.old.items) }
         ensures spare { self.new.spare ≡ self.old.spare }
         ensures err { OnErr result (self.new ≡ self.old) }

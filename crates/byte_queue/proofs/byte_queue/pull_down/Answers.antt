@@ -1,6 +1,6 @@
 use Rattle.std.proofs.Common.{arith, take, drop, ◌-◌, length, ap, ◌∙◌}
-use Rattle.evbuf_chain.proofs.QueueLemmas.{take-written, between}
-use Rattle.evbuf_chain.proofs.byte_queue.pull_down.Goals as goal
+use Rattle.byte_queue.proofs.QueueLemmas.{take-written, between}
+use Rattle.byte_queue.proofs.byte_queue.pull_down.Goals as goal
 
 pub returns-clause-items : goal.returns-clause-items
 returns-clause-items c =

@@ -1,0 +1,3 @@
+pub mod MemoryAnswers
+pub mod QueueView
+pub mod QueuedBytes
