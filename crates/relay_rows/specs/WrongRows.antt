@@ -118,13 +118,11 @@ fired_on_a_freed_side =
     ∷ fires (in_of 1) why.Read ∷ [])
     (fires (in_of 2) why.Read)
 
-abbrev hook_out : Settings
-hook_out = record usual { hooks = out_of 0 ∷ [] }
-
 -- one byte is left, and the write low mark is 0
 abbrev pub write_reason_above_the_low_mark : Wrong
 write_reason_above_the_low_mark =
-    wrong hook_out (got_two ++ turn 2 ∷ poll ∷ wants_read (in_of 0) ∷ wants_both (out_of 0) ∷ can_write (out_of 0)
+    wrong (record usual { hooks = out_of 0 ∷ [] })
+    (got_two ++ turn 2 ∷ poll ∷ wants_read (in_of 0) ∷ wants_both (out_of 0) ∷ can_write (out_of 0)
     ∷ takes (out_of 0) 2 (104 ∷ []) ∷ [])
     (fires (out_of 0) why.Write)
 

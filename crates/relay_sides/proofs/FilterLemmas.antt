@@ -51,7 +51,8 @@ pub went : (dir : Dir) (n limit : ℕ) (over : Bool) (w new : WorldValue) (befor
 went dir n limit over w new before made at under at_is under_is c e m = record {
   crossed = subst (λ u. Crossed dir (stepping dir (crossing w dir (upper_of n) u) limit over) (crossing w dir (upper_of n) u)
       (crossing new dir (upper_of n) u)) under_is
-      (subst (λ a. Crossed dir (stepping dir (crossing w dir a under) limit over) (crossing w dir a under) (crossing new dir a under)) at_is c);
+      (subst (λ a. Crossed dir (stepping dir (crossing w dir a under) limit over) (crossing w dir a under)
+      (crossing new dir a under)) at_is c);
   world = subst (λ u. new ≡ crossed_at w dir (upper_of n) u (crossing new dir (upper_of n) u)) under_is
       (subst (λ a. new ≡ crossed_at w dir a under (crossing new dir a under)) at_is e);
   made_is = m ∙ (λ i. before + length (stepping dir (crossing w dir (at_is i) (under_is i)) limit over).made);
@@ -59,7 +60,8 @@ went dir n limit over w new before made at under at_is under_is c e m = record {
 
 -- the read filter's step at side n
 
-module _ (w new : WorldValue) (n mark : ℕ) (over : Bool) (before made : ℕ) (g : Went Read n mark over w new before made) (long : upper_of n < length w.slots) where
+module _ (w new : WorldValue) (n mark : ℕ) (over : Bool) (before made : ℕ) (g : Went Read n mark over w new before made)
+    (long : upper_of n < length w.slots) where
   abbrev b : Bevs
   b = bevs_at w.slots n
 
@@ -120,7 +122,8 @@ module _ (w new : WorldValue) (n mark : ℕ) (over : Bool) (before made : ℕ) (
     pub read-unflawed : unflawed read_bevs (record x { read_made = made; bad = bad }) ≡ unflawed (bevs_at w.slots n) x
     read-unflawed = ap (λ z. unflawed (record { lower = (let y = b.lower in record y { bev = z }); upper = b.upper }) x) g.crossed.gone
 
-    pub read-made : passage_by read_bevs d (record x { read_made = made; bad = bad }) o ≡ read_part mark over (passage_by (bevs_at w.slots n) d x o)
+    pub read-made : passage_by read_bevs d (record x { read_made = made; bad = bad }) o
+        ≡ read_part mark over (passage_by (bevs_at w.slots n) d x o)
     read-made =
         let done = ap (λ (z : Running). z.finished) g.crossed.filter in
         let bad_then = bad_is ∙ ap (λ (z : Running). or_else x.bad z.stopped) g.crossed.filter in
@@ -130,12 +133,17 @@ module _ (w new : WorldValue) (n mark : ℕ) (over : Bool) (before made : ℕ) (
         let c = l.buffers in
         λ i. record q {
           flow = record f { used = used_is i; read_done = done i };
-          lane = record l { buffers = record c { raw_input = raw_is i; input = input_is i }; reader = g.crossed.filter i; read_made = made_is i };
+          lane = record l {
+            buffers = record c { raw_input = raw_is i; input = input_is i };
+            reader = g.crossed.filter i;
+            read_made = made_is i;
+          };
           from_bad = bad_then i;
         }
 
     pub read-counted : IsCounted (flow_of (bevs_at w.slots n) d x) (lane_of (bevs_at w.slots n) d x) →
-        IsCounted (flow_of read_bevs d (record x { read_made = made; bad = bad })) (lane_of read_bevs d (record x { read_made = made; bad = bad }))
+        IsCounted (flow_of read_bevs d (record x { read_made = made; bad = bad }))
+        (lane_of read_bevs d (record x { read_made = made; bad = bad }))
     read-counted h =
         let raw = ap length raw_is ∙ length-drop s.used b.lower.bev.input.bytes in
         let input = ap length input_is ∙ length-append b.upper.bev.input.bytes s.made in
@@ -149,7 +157,8 @@ module _ (w new : WorldValue) (n mark : ℕ) (over : Bool) (before made : ℕ) (
 
 -- the write filter's step at side n
 
-module _ (w new : WorldValue) (n hold : ℕ) (over : Bool) (before made : ℕ) (g : Went Write n hold over w new before made) (long : upper_of n < length w.slots) where
+module _ (w new : WorldValue) (n hold : ℕ) (over : Bool) (before made : ℕ) (g : Went Write n hold over w new before made)
+    (long : upper_of n < length w.slots) where
   abbrev b2 : Bevs
   b2 = bevs_at w.slots n
 
@@ -219,7 +228,11 @@ module _ (w new : WorldValue) (n hold : ℕ) (over : Bool) (before made : ℕ) (
         let c = l.buffers in
         λ i. record q {
           flow = record f { turned = turned_is i; write_done = done i };
-          lane = record l { buffers = record c { output = output_is i; raw_output = raw_output_is i }; writer = g.crossed.filter i; write_made = made_is2 i };
+          lane = record l {
+            buffers = record c { output = output_is i; raw_output = raw_output_is i };
+            writer = g.crossed.filter i;
+            write_made = made_is2 i;
+          };
           to_bad = bad_then i;
         }
 

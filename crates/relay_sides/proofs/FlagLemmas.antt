@@ -26,7 +26,8 @@ pub are_sound : (r s : Inside) → AreSides r → s.opened ≡ r.opened → s.re
 are_sound r s h opened unready l counted = record {
   slots = l.slots ∙ h.slots ∙ ap (λ n. 4 * n) (sym opened);
   sides = l.sides ∙ h.sides ∙ ap (λ n. 2 * n) (sym opened);
-  filters = λ n lt. filters-last r.world.slots s.world.slots r.sides.items s.sides.items (2 * r.opened) l h.filters n (omega (arith, lt, opened));
+  filters = λ n lt. filters-last r.world.slots s.world.slots r.sides.items s.sides.items (2 * r.opened) l h.filters n
+      (omega (arith, lt, opened));
   counted = λ n lt. counted n (omega (arith, lt, opened));
   read_room = λ some. absurd (omega (arith, some, unready));
 }
@@ -106,7 +107,8 @@ module _ (v : SidesValue) (r : Inside) (is : sides_of r ≡ v) (sound : AreSides
         sound refl refl (bev_lasting K refl) (counted-alike S w.slots K K (bev_alike K (λ m. refl)) (2 * r.opened) sound.counted)
 
     -- together with what is kept beside it
-    module _ (j : ℕ) (j_is : j ≡ number e) (x y : SideState) (x_is : x ≡ get_or r.sides.items j x) (counted_is : counted_of y ≡ counted_of x) where
+    module _ (j : ℕ) (j_is : j ≡ number e) (x y : SideState) (x_is : x ≡ get_or r.sides.items j x)
+        (counted_is : counted_of y ≡ counted_of x) where
       state_is : x ≡ state_at K n
       state_is = state_found K n j x j_is x_is state_there
 
@@ -139,7 +141,8 @@ module _ (v : SidesValue) (r : Inside) (is : sides_of r ≡ v) (sound : AreSides
       both_lasting = bev_lasting (slice_set K j y) (length-set K j y)
 
   -- what is kept beside it changes alone
-  module _ (j : ℕ) (j_is : j ≡ number e) (x y : SideState) (x_is : x ≡ get_or r.sides.items j x) (counted_is : counted_of y ≡ counted_of x) where
+  module _ (j : ℕ) (j_is : j ≡ number e) (x y : SideState) (x_is : x ≡ get_or r.sides.items j x)
+      (counted_is : counted_of y ≡ counted_of x) where
     kept_is : x ≡ state_at K n
     kept_is = state_found K n j x j_is x_is state_there
 

@@ -60,7 +60,8 @@ module _ (w0 w1 w2 w3 w4 : WorldValue) (n t l u u2 l2 : ℕ) (la : l ≡ lower_o
   q4 = lower_given_up w3 w4 t l2 lb in3 four
 
   pub gave_up : Quiet w0.slots w4.slots
-  gave_up = then_quiet w0.slots w1.slots w4.slots q1 (then_quiet w1.slots w2.slots w4.slots q2 (then_quiet w2.slots w3.slots w4.slots q3 q4))
+  gave_up = then_quiet w0.slots w1.slots w4.slots q1
+      (then_quiet w1.slots w2.slots w4.slots q2 (then_quiet w2.slots w3.slots w4.slots q3 q4))
 
   -- what each step leaves of a side
   step1 : (bevs_at w1.slots n).lower ≡ roomless_slot (slot_at w0 (lower_of n))

@@ -90,7 +90,8 @@ module _ (k : Links) (e : SideId) where
           ap (λ z. slice_set first n (with_bad y.from_bad z)) from_put
           ∙ set_comm (slice_set S n a) t n c b (peer-apart e) ∙ ap (λ zs. slice_set zs t c) (set-set S n a b) in
           let value : with_bad y.to_bad (slice_index_or (slice_set (slice_set S n b) t c) t no_side) ≡ d =
-          ap (with_bad y.to_bad) (get_or-set_same (slice_set S n b) t c no_side (let h = length-set S n b in omega (arith, h, there)) ∙ c_is) in
+          ap (with_bad y.to_bad)
+          (get_or-set_same (slice_set S n b) t c no_side (let h = length-set S n b in omega (arith, h, there)) ∙ c_is) in
           let goal : d ≡ with_bad y.to_bad (slice_index_or (slice_set S n b) t no_side) =
           ap (with_bad y.to_bad) (sym (get_or-set_other S n t b no_side (peer-apart e))) in
           let sides = (λ i. slice_set (mid i) t (with_bad y.to_bad (slice_index_or (mid i) t no_side)))

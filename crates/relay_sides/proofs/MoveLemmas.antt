@@ -66,7 +66,8 @@ module _ (v : SidesValue) (r : Inside) (is : sides_of r ≡ v) (sound : AreSides
   slots_are =
       ap (λ (z : WorldValue). z.slots) w_is
       ∙ (λ i. (let p = from_is i in let q = to_is i in
-      slice_set (slice_set S q (output_swapped (slot_at r.world p) (slot_at r.world q))) p (input_swapped (slot_at r.world p) (slot_at r.world q))))
+      slice_set (slice_set S q (output_swapped (slot_at r.world p) (slot_at r.world q))) p
+      (input_swapped (slot_at r.world p) (slot_at r.world q))))
 
   n_there : upper_of n < length S
   n_there = upper_there v r is sound e opened

@@ -325,7 +325,8 @@ sound_kept r w k a b sound = record {
       (subst (λ (S : List Slot). IsCounted (flow_at S r.sides.items n) (lane_at S r.sides.items n)) (sym a) (sound.counted n h));
   read_room = λ h. (
     (sound.read_room h).0,
-    subst (λ (K : List SideState). CanRead (bevs_at w.slots r.ready) (state_at K r.ready) (vec_capacity r.beside) r.spare r.readable) (sym b)
+    subst (λ (K : List SideState). CanRead (bevs_at w.slots r.ready) (state_at K r.ready) (vec_capacity r.beside) r.spare r.readable)
+        (sym b)
         (subst (λ (S : List Slot). CanRead (bevs_at S r.ready) (state_at r.sides.items r.ready) (vec_capacity r.beside) r.spare r.readable)
         (sym a) (sound.read_room h).1),
   );
@@ -359,9 +360,11 @@ sound_more r w k time turn near far near_limit far_limit near_is far_is sound a 
           (vec_capacity r.beside) r.spare r.readable
           (sound.read_room h) in (
             can.0,
-            subst (λ (K : List SideState). CanRead (bevs_at w.slots r.ready) (state_at K r.ready) (vec_capacity r.beside) r.spare r.readable)
+            subst (λ (K : List SideState). CanRead (bevs_at w.slots r.ready) (state_at K r.ready)
+                (vec_capacity r.beside) r.spare r.readable)
                 (sym b)
-                (subst (λ (S : List Slot). CanRead (bevs_at S r.ready) (state_at (K ++ states) r.ready) (vec_capacity r.beside) r.spare r.readable)
+                (subst (λ (S : List Slot). CanRead (bevs_at S r.ready) (state_at (K ++ states) r.ready)
+                (vec_capacity r.beside) r.spare r.readable)
                 (sym a) can.1),
           );
     }

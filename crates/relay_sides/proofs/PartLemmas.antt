@@ -91,7 +91,8 @@ module _ (v : SidesValue) (r : Inside) (is : sides_of r ≡ v) (e : SideId) (ope
   }
 
   -- a part of a round was made
-  pub part_links : (f : Passage → Passage) → unflawed from own ≡ unflawed (bevs_at r.world.slots (number e)) (state_at r.sides.items (number e)) →
+  pub part_links : (f : Passage → Passage)
+      → unflawed from own ≡ unflawed (bevs_at r.world.slots (number e)) (state_at r.sides.items (number e)) →
       unflawed to other ≡ unflawed (bevs_at r.world.slots (twin (number e))) (state_at r.sides.items (twin (number e))) →
       passage_by from to own other ≡ f (passage_by (bevs_at r.world.slots (number e)) (bevs_at r.world.slots (twin (number e)))
       (state_at r.sides.items (number e)) (state_at r.sides.items (twin (number e)))) →

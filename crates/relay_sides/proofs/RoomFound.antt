@@ -26,7 +26,8 @@ module _ (v : SidesValue) (r : Inside) (is : sides_of r ≡ v) (e : SideId) (ope
   pub raw_output_room_seen : raw_output_room v.rooms e ≡ (bevs_at r.world.slots (twin (number e))).lower.bev.output.spare
   raw_output_room_seen =
       ap (λ (z : SidesValue). raw_output_room z.rooms e) (sym is)
-      ∙ get-tabulate (λ m. (bevs_at r.world.slots (twin m)).lower.bev.output.spare) (2 * r.opened) n 0 (number-lt e r.opened (here v r is e opened))
+      ∙ get-tabulate (λ m. (bevs_at r.world.slots (twin m)).lower.bev.output.spare) (2 * r.opened) n 0
+      (number-lt e r.opened (here v r is e opened))
 
   beside_seen : v.rooms.beside ≡ vec_capacity r.beside
   beside_seen = ap (λ (z : SidesValue). z.rooms.beside) (sym is)

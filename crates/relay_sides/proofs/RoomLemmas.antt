@@ -98,7 +98,8 @@ module _ (S S' : List Slot) (K : List SideState) (q : Quiet S S') where
         (subst (λ (z : List Slot). (n : ℕ) → n < 2 * r.opened → (bevs_at z n).upper.kind ≡ Filter (lower_of n)) s sound.filters);
     counted = counted-alike S S' K K quiet_alike (2 * r.opened)
         (subst (λ (z : List SideState). (n : ℕ) → n < 2 * r.opened → IsCounted (flow_at S z n) (lane_at S z n)) k
-        (subst (λ (z : List Slot). (n : ℕ) → n < 2 * r.opened → IsCounted (flow_at z r.sides.items n) (lane_at z r.sides.items n)) s sound.counted));
+        (subst (λ (z : List Slot). (n : ℕ) → n < 2 * r.opened
+        → IsCounted (flow_at z r.sides.items n) (lane_at z r.sides.items n)) s sound.counted));
   }
 
 -- room alone is made
@@ -150,13 +151,15 @@ module _ (opened : ℕ) (S : List Slot) (K : List SideState) (e : SideId) (h : e
       get-tabulate (λ n. (bevs_at S (twin n)).lower.bev.output.spare) (2 * opened) (number e) 0 (number-lt e opened h)
 
   pub has_input_room : (mark beside : ℕ) →
-      (let b = bevs_at S (number e) in HasStepRoom b.upper.read_filter.kind (length b.lower.bev.input.bytes) (length b.upper.bev.input.bytes) mark
+      (let b = bevs_at S (number e) in HasStepRoom b.upper.read_filter.kind (length b.lower.bev.input.bytes)
+      (length b.upper.bev.input.bytes) mark
       b.upper.bev.input.spare beside (state_at K (number e)).read_made) →
       HasInputRoom mark (links_of opened S K) (rooms_of opened S beside) e
   has_input_room mark beside room =
       subst (λ (l : Lane). HasStepRoom l.reader.kind (length l.buffers.raw_input) (length l.buffers.input) mark
       (input_room (rooms_of opened S beside) e) beside l.read_made) (sym lane_is)
-      (let l = lane_at S K (number e) in subst (λ (z : ℕ). HasStepRoom l.reader.kind (length l.buffers.raw_input) (length l.buffers.input) mark
+      (let l = lane_at S K (number e) in subst
+      (λ (z : ℕ). HasStepRoom l.reader.kind (length l.buffers.raw_input) (length l.buffers.input) mark
       z beside l.read_made) (sym (input_room_is beside)) room)
 
   pub has_output_room : (hold count beside : ℕ) →
@@ -174,7 +177,8 @@ module _ (opened : ℕ) (S : List Slot) (K : List SideState) (e : SideId) (h : e
 pub input_step_room : (w : WorldValue) (n at count made made2 mark beside : ℕ) → at ≡ upper_of n →
     count ≡ length (bevs_at w.slots n).lower.bev.input.bytes → made ≡ made2 →
     HasStepRoom (slot_at w at).read_filter.kind count (length (bev_at w at).input.bytes) mark (bev_at w at).input.spare beside made →
-    (let b = bevs_at w.slots n in HasStepRoom b.upper.read_filter.kind (length b.lower.bev.input.bytes) (length b.upper.bev.input.bytes) mark
+    (let b = bevs_at w.slots n in HasStepRoom b.upper.read_filter.kind (length b.lower.bev.input.bytes)
+    (length b.upper.bev.input.bytes) mark
     b.upper.bev.input.spare beside made2)
 input_step_room w n at count made made2 mark beside a c m room =
     let b = bevs_at w.slots n in
@@ -184,13 +188,16 @@ input_step_room w n at count made made2 mark beside a c m room =
     (subst (λ (z : ℕ). HasStepRoom (slot_at w z).read_filter.kind count (length (bev_at w z).input.bytes) mark (bev_at w z).input.spare
     beside made) a room))
 
-pub output_step_room : (w : WorldValue) (n at under count made made2 hold beside : ℕ) → at ≡ upper_of n → under ≡ lower_of n → made ≡ made2 →
-    HasStepRoom (slot_at w at).write_filter.kind count (length (bev_at w under).output.bytes) hold (bev_at w under).output.spare beside made →
+pub output_step_room : (w : WorldValue) (n at under count made made2 hold beside : ℕ) → at ≡ upper_of n → under ≡ lower_of n
+    → made ≡ made2 →
+    HasStepRoom (slot_at w at).write_filter.kind count (length (bev_at w under).output.bytes) hold
+    (bev_at w under).output.spare beside made →
     (let b = bevs_at w.slots n in HasStepRoom b.upper.write_filter.kind count (length b.lower.bev.output.bytes) hold
     b.lower.bev.output.spare beside made2)
 output_step_room w n at under count made made2 hold beside a u m room =
     let b = bevs_at w.slots n in
-    subst (λ (z : ℕ). HasStepRoom b.upper.write_filter.kind count (length b.lower.bev.output.bytes) hold b.lower.bev.output.spare beside z) m
+    subst (λ (z : ℕ). HasStepRoom b.upper.write_filter.kind count
+    (length b.lower.bev.output.bytes) hold b.lower.bev.output.spare beside z) m
     (subst (λ (z : ℕ). HasStepRoom b.upper.write_filter.kind count (length (bev_at w z).output.bytes) hold (bev_at w z).output.spare
     beside made) u
     (subst (λ (z : ℕ). HasStepRoom (slot_at w z).write_filter.kind count (length (bev_at w under).output.bytes) hold

@@ -34,7 +34,8 @@ lane_then k l e pairs opened x is = ap (λ z. lane_at z e) is ∙ lane_put k e p
 pub input_room_kept : (mark : ℕ) (k l : Links) (r s : Rooms) (e : SideId) → lane_at l e ≡ lane_at k e → s ≡ r → HasInputRoom mark k r e →
     HasInputRoom mark l s e
 input_room_kept mark k l r s e same rooms h =
-    subst (λ (z : Lane). HasStepRoom z.reader.kind (length z.buffers.raw_input) (length z.buffers.input) mark (input_room s e) s.beside z.read_made)
+    subst (λ (z : Lane). HasStepRoom z.reader.kind (length z.buffers.raw_input) (length z.buffers.input) mark
+    (input_room s e) s.beside z.read_made)
     (sym same) (subst (λ z. HasInputRoom mark k z e) (sym rooms) h)
 
 -- how many bytes the write filter is offered at most, of a direction
@@ -71,18 +72,23 @@ pub output_room_then : (mark hold : ℕ) (k l : Links) (r s : Rooms) (e : SideId
     EndOf (passage_at k e) y → length y.lane.buffers.output ≤ most_of mark (passage_at k e) → KeepsEndRoom e r s →
     HasOutputRoom hold (most_offered mark k e) k r e → HasOutputRoom hold (length (lane_at l e).buffers.output) l s e
 output_room_then mark hold k l r s e y is end most kept h =
-    subst (λ (z : Lane). HasStepRoom z.writer.kind (length z.buffers.output) (length z.buffers.raw_output) hold (raw_output_room s e) s.beside z.write_made)
+    subst (λ (z : Lane). HasStepRoom z.writer.kind (length z.buffers.output) (length z.buffers.raw_output) hold
+    (raw_output_room s e) s.beside z.write_made)
     (sym is)
     (let x = passage_at k e in
-    let g : HasStepRoom x.lane.writer.kind (length y.lane.buffers.output) (length x.lane.buffers.raw_output) hold (raw_output_room s e) s.beside
+    let g : HasStepRoom x.lane.writer.kind (length y.lane.buffers.output) (length x.lane.buffers.raw_output) hold
+    (raw_output_room s e) s.beside
     x.lane.write_made =
     room-mono x.lane.writer.kind (length y.lane.buffers.output) (most_offered mark k e) (length x.lane.buffers.raw_output) hold
     (raw_output_room r e) r.beside (raw_output_room s e) s.beside x.lane.write_made most (omega (arith, kept.raw_output)) kept.beside h in
-    subst (λ n. HasStepRoom y.lane.writer.kind (length y.lane.buffers.output) (length y.lane.buffers.raw_output) hold (raw_output_room s e) s.beside n)
+    subst (λ n. HasStepRoom y.lane.writer.kind (length y.lane.buffers.output) (length y.lane.buffers.raw_output) hold
+    (raw_output_room s e) s.beside n)
     (sym end.write_made)
-    (subst (λ bs. HasStepRoom y.lane.writer.kind (length y.lane.buffers.output) (length bs) hold (raw_output_room s e) s.beside x.lane.write_made)
+    (subst (λ bs. HasStepRoom y.lane.writer.kind (length y.lane.buffers.output) (length bs) hold
+    (raw_output_room s e) s.beside x.lane.write_made)
     (sym end.raw_output)
-    (subst (λ w. HasStepRoom w.kind (length y.lane.buffers.output) (length x.lane.buffers.raw_output) hold (raw_output_room s e) s.beside x.lane.write_made)
+    (subst (λ w. HasStepRoom w.kind (length y.lane.buffers.output) (length x.lane.buffers.raw_output) hold
+    (raw_output_room s e) s.beside x.lane.write_made)
     (sym end.writer) g)))
 
 -- room at the end stays over two parts

@@ -91,7 +91,8 @@ state_changed K n i f y a lt is =
     })
 
 -- there is room for a read of so many bytes
-pub can_read : (v : SidesValue) (r : Inside) → sides_of r ≡ v → (e : SideId) → e.link < v.links.opened → AreSides r → (count : ℕ) → 0 < count →
+pub can_read : (v : SidesValue) (r : Inside) → sides_of r ≡ v → (e : SideId) → e.link < v.links.opened → AreSides r → (count : ℕ)
+    → 0 < count →
     count ≤ spare_read v e →
     CanRead (bevs_at r.world.slots (number e)) (state_at r.sides.items (number e)) (vec_capacity r.beside) r.spare count
 can_read v r is e opened sound count some room =
@@ -131,7 +132,8 @@ state_brought bytes s = record s { read = s.read + length bytes }
 
 module _ (v : SidesValue) (r : Inside) (is : sides_of r ≡ v) (e : SideId) (opened : e.link < v.links.opened) (sound : AreSides r)
     (bytes : List ℕ) (time spare : ℕ) (S' : List Slot) (K' : List SideState)
-    (p : Changed (number e) (bevs_brought bytes time spare) r.world.slots S') (q : StateChanged (number e) (state_brought bytes) r.sides.items K') where
+    (p : Changed (number e) (bevs_brought bytes time spare) r.world.slots S')
+    (q : StateChanged (number e) (state_brought bytes) r.sides.items K') where
   lt : number e < 2 * r.opened
   lt = number-lt e r.opened (here v r is e opened)
 
@@ -200,7 +202,8 @@ module _ (v : SidesValue) (r : Inside) (is : sides_of r ≡ v) (e : SideId) (ope
         })));
   }
 
-  pub brought-room : CanRead (bevs_at r.world.slots (number e)) (state_at r.sides.items (number e)) (vec_capacity r.beside) r.spare (length bytes) →
+  pub brought-room : CanRead (bevs_at r.world.slots (number e)) (state_at r.sides.items (number e)) (vec_capacity r.beside) r.spare
+      (length bytes) →
       HasInputRoom (read_mark v.links e) (links_of r.opened S' K') (rooms_of r.opened S' (vec_capacity r.beside)) e
   brought-room can =
       let b = bevs_at r.world.slots (number e) in

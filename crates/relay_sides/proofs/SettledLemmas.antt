@@ -131,7 +131,10 @@ module _ (t : RoundRules) (x : Passage) (told : IsTold x) (is : Settled t x) whe
       moved = let none = ap length is.input in omega (arith, none)
 
       go : (q : Bool) →
-          (let f = x.flow in if q then record x { flow = record f { moved = f.moved + length x.lane.buffers.input }; lane = lane_moved x.lane } else x) ≡ x
+          (let f = x.flow in if q then record x {
+            flow = record f { moved = f.moved + length x.lane.buffers.input };
+            lane = lane_moved x.lane;
+          } else x) ≡ x
       go true =
           let f = x.flow in
           let l = x.lane in

@@ -39,8 +39,10 @@ module _ (v : SidesValue) (r : Inside) (is : sides_of r ≡ v) (sound : AreSides
   own_is : x ≡ state_at K n
   own_is = own_found v r is sound e opened j j_is x x_is
 
-  fits : IsCounted (flow_of (bevs_at r.world.slots n) (bevs_at r.world.slots t) x) (lane_of (bevs_at r.world.slots n) (bevs_at r.world.slots t) x)
-  fits = subst (λ z. IsCounted (flow_of (bevs_at r.world.slots n) (bevs_at r.world.slots t) z) (lane_of (bevs_at r.world.slots n) (bevs_at r.world.slots t) z))
+  fits : IsCounted (flow_of (bevs_at r.world.slots n) (bevs_at r.world.slots t) x)
+      (lane_of (bevs_at r.world.slots n) (bevs_at r.world.slots t) x)
+  fits = subst (λ z. IsCounted (flow_of (bevs_at r.world.slots n) (bevs_at r.world.slots t) z)
+      (lane_of (bevs_at r.world.slots n) (bevs_at r.world.slots t) z))
       (sym own_is) (sound.counted n (number-lt e r.opened (here v r is e opened)))
 
   -- the read filter of the side
@@ -71,9 +73,11 @@ module _ (v : SidesValue) (r : Inside) (is : sides_of r ≡ v) (sound : AreSides
     pub read_links : links_of r.opened w.slots (slice_set r.sides.items j (record x { read_made = made; bad = bad }))
         ≡ with_passage e (read_part mark over (passage_at v.links e)) v.links
     read_links =
-        part_links v r is e opened w.slots (slice_set K j y) b d y o link (read-right r.world w n mark over x.read_made made g long) refl refl
+        part_links v r is e opened w.slots (slice_set K j y) b d y o link
+        (read-right r.world w n mark over x.read_made made g long) refl refl
         (ap limit_kept own_is) (read_part mark over)
-        (read-unflawed r.world w n mark over x.read_made made g long d x o bad refl bad_is ∙ ap (unflawed (bevs_at r.world.slots n)) own_is) refl
+        (read-unflawed r.world w n mark over x.read_made made g long d x o bad refl bad_is
+        ∙ ap (unflawed (bevs_at r.world.slots n)) own_is) refl
         (read-made r.world w n mark over x.read_made made g long d x o bad refl bad_is
         ∙ ap (λ z. read_part mark over (passage_by (bevs_at r.world.slots n) d z o)) own_is)
 
@@ -150,7 +154,8 @@ module _ (v : SidesValue) (r : Inside) (is : sides_of r ≡ v) (sound : AreSides
         part_links v r is e opened w.slots (slice_set mid k u) a q y2 u link2 refl
         (write-left r.world w t hold over x.write_made made g long2) (ap counted_of other_is) (ap limit_kept own_is)
         (λ s. written_by (write_step hold over s.lane) s) (ap (unflawed a) own_is)
-        (write-unflawed r.world w t hold over x.write_made made g long2 a x z bad refl bad_is ∙ ap (unflawed (bevs_at r.world.slots t)) other_is)
+        (write-unflawed r.world w t hold over x.write_made made g long2 a x z bad refl bad_is
+        ∙ ap (unflawed (bevs_at r.world.slots t)) other_is)
         (write-made r.world w t hold over x.write_made made g long2 a x z bad refl bad_is
         ∙ (λ i. (let s = passage_by a (bevs_at r.world.slots t) (own_is i) (other_is i) in written_by (write_step hold over s.lane) s)))
 

@@ -32,7 +32,8 @@ invariant_of-self c =
     let e = c.args.side in
     let lt = number-lt e r.opened (here c.args.self.now r c.self.view_is e c.requires.opened) in
     let lt2 : number e < length r.sides.items = omega (arith, lt, c.self.invariant.sides) in
-    let x = state_found r.sides.items (number e) c.number.result c.index_mut-own.result.now c.number.ensures c.index_mut-own.ensures.value lt2 in
+    let x = state_found r.sides.items
+    (number e) c.number.result c.index_mut-own.result.now c.number.ensures c.index_mut-own.ensures.value lt2 in
     let p = lower_changed r.world c.feed_at.new.self (number e) c.lower.result
     (slot_fed c.args.bytes.now c.args.time (bev_at c.feed_at.new.self c.lower.result).input.spare)
     c.lower.ensures (omega (arith, lt, c.self.invariant.slots)) c.feed_at.ensures in
@@ -47,7 +48,8 @@ returns-clause-links c =
     let e = c.args.side in
     let lt = number-lt e r.opened (here c.args.self.now r c.self.view_is e c.requires.opened) in
     let lt2 : number e < length r.sides.items = omega (arith, lt, c.self.invariant.sides) in
-    let x = state_found r.sides.items (number e) c.number.result c.index_mut-own.result.now c.number.ensures c.index_mut-own.ensures.value lt2 in
+    let x = state_found r.sides.items
+    (number e) c.number.result c.index_mut-own.result.now c.number.ensures c.index_mut-own.ensures.value lt2 in
     let p = lower_changed r.world c.feed_at.new.self (number e) c.lower.result
     (slot_fed c.args.bytes.now c.args.time (bev_at c.feed_at.new.self c.lower.result).input.spare)
     c.lower.ensures (omega (arith, lt, c.self.invariant.slots)) c.feed_at.ensures in
@@ -61,7 +63,8 @@ returns-clause-room c =
     let e = c.args.side in
     let lt = number-lt e r.opened (here c.args.self.now r c.self.view_is e c.requires.opened) in
     let lt2 : number e < length r.sides.items = omega (arith, lt, c.self.invariant.sides) in
-    let x = state_found r.sides.items (number e) c.number.result c.index_mut-own.result.now c.number.ensures c.index_mut-own.ensures.value lt2 in
+    let x = state_found r.sides.items
+    (number e) c.number.result c.index_mut-own.result.now c.number.ensures c.index_mut-own.ensures.value lt2 in
     let p = lower_changed r.world c.feed_at.new.self (number e) c.lower.result
     (slot_fed c.args.bytes.now c.args.time (bev_at c.feed_at.new.self c.lower.result).input.spare)
     c.lower.ensures (omega (arith, lt, c.self.invariant.slots)) c.feed_at.ensures in

@@ -16,7 +16,8 @@ pub decref_at-requires-clause-some : goal.decref_at-requires-clause-some
 decref_at-requires-clause-some c =
     let r = c.self.inside in
     let seen = side_seen c.args.self.now r c.self.view_is c.args.side c.requires.opened in
-    subst (λ (n : ℕ). 0 < n) (ap (λ (x : PlainSide). x.references) seen ∙ ap (λ i. (bev_at r.world i).refs) (sym c.lower.ensures)) c.requires.some
+    subst (λ (n : ℕ). 0 < n)
+    (ap (λ (x : PlainSide). x.references) seen ∙ ap (λ i. (bev_at r.world i).refs) (sym c.lower.ensures)) c.requires.some
 
 pub invariant_of-self : goal.invariant_of-self
 invariant_of-self c =

@@ -60,11 +60,13 @@ returns-then-own-ge-SPENT-4 c =
           (w.value-is ∙ ap (nat_le spent) w.used-else-own-ge-SPENT.ensures)
     ] in
     let w3 : c.if-used-ge-SPENT-2.value ≡ (((u || m) || t) || g) = elim c.if-used-ge-SPENT-2.branch [
-      | then-used-ge-SPENT-2 w ↦ or_first ((u || m) || t) g c.if-used-ge-SPENT-2.value (sym w2 ∙ w.if-used-ge-SPENT-2.true) (w.value-is ∙ w2)
+      | then-used-ge-SPENT-2 w ↦ or_first ((u || m) || t) g c.if-used-ge-SPENT-2.value (sym w2 ∙ w.if-used-ge-SPENT-2.true)
+          (w.value-is ∙ w2)
       | else-used-ge-SPENT-2 w ↦ or_second ((u || m) || t) g c.if-used-ge-SPENT-2.value (sym w2 ∙ w.if-used-ge-SPENT-2.false) w.value-is
     ] in
     let w4 : c.if-own-ge-SPENT-2.value ≡ ((((u || m) || t) || g) || d) = elim c.if-own-ge-SPENT-2.branch [
-      | then-own-ge-SPENT-2 w ↦ or_first (((u || m) || t) || g) d c.if-own-ge-SPENT-2.value (sym w3 ∙ w.if-own-ge-SPENT-2.true) (w.value-is ∙ w3)
+      | then-own-ge-SPENT-2 w ↦ or_first (((u || m) || t) || g) d c.if-own-ge-SPENT-2.value (sym w3 ∙ w.if-own-ge-SPENT-2.true)
+          (w.value-is ∙ w3)
       | else-own-ge-SPENT-2 w ↦
           or_second (((u || m) || t) || g) d c.if-own-ge-SPENT-2.value (sym w3 ∙ w.if-own-ge-SPENT-2.false) w.value-is
     ] in
@@ -111,11 +113,13 @@ returns-else-own-ge-SPENT-4 c =
           (w.value-is ∙ ap (nat_le spent) w.used-else-own-ge-SPENT.ensures)
     ] in
     let w3 : c.if-used-ge-SPENT-2.value ≡ (((u || m) || t) || g) = elim c.if-used-ge-SPENT-2.branch [
-      | then-used-ge-SPENT-2 w ↦ or_first ((u || m) || t) g c.if-used-ge-SPENT-2.value (sym w2 ∙ w.if-used-ge-SPENT-2.true) (w.value-is ∙ w2)
+      | then-used-ge-SPENT-2 w ↦ or_first ((u || m) || t) g c.if-used-ge-SPENT-2.value (sym w2 ∙ w.if-used-ge-SPENT-2.true)
+          (w.value-is ∙ w2)
       | else-used-ge-SPENT-2 w ↦ or_second ((u || m) || t) g c.if-used-ge-SPENT-2.value (sym w2 ∙ w.if-used-ge-SPENT-2.false) w.value-is
     ] in
     let w4 : c.if-own-ge-SPENT-2.value ≡ ((((u || m) || t) || g) || d) = elim c.if-own-ge-SPENT-2.branch [
-      | then-own-ge-SPENT-2 w ↦ or_first (((u || m) || t) || g) d c.if-own-ge-SPENT-2.value (sym w3 ∙ w.if-own-ge-SPENT-2.true) (w.value-is ∙ w3)
+      | then-own-ge-SPENT-2 w ↦ or_first (((u || m) || t) || g) d c.if-own-ge-SPENT-2.value (sym w3 ∙ w.if-own-ge-SPENT-2.true)
+          (w.value-is ∙ w3)
       | else-own-ge-SPENT-2 w ↦
           or_second (((u || m) || t) || g) d c.if-own-ge-SPENT-2.value (sym w3 ∙ w.if-own-ge-SPENT-2.false) w.value-is
     ] in

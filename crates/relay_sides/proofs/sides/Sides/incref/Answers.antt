@@ -16,7 +16,8 @@ pub incref_at-requires-clause-few : goal.incref_at-requires-clause-few
 incref_at-requires-clause-few c =
     let r = c.self.inside in
     let seen = side_seen c.args.self.now r c.self.view_is c.args.side c.requires.opened in
-    subst (λ (n : ℕ). n < 2 ^ 32 - 1) (ap (λ (x : PlainSide). x.references) seen ∙ ap (λ i. (bev_at r.world i).refs) (sym c.lower.ensures)) c.requires.few
+    subst (λ (n : ℕ). n < 2 ^ 32 - 1)
+    (ap (λ (x : PlainSide). x.references) seen ∙ ap (λ i. (bev_at r.world i).refs) (sym c.lower.ensures)) c.requires.few
 
 pub invariant_of-self : goal.invariant_of-self
 invariant_of-self c =

@@ -13,7 +13,8 @@ run_read_filter-requires-clause-room c =
     let t = c.args.round in
     let w = c.hold_back.new.self in
     input_room_kept t.mark v.links w.links v.rooms w.rooms e
-    (lane_then v.links w.links e c.hold_back.ensures.pairs c.requires.opened (hold_part t.hold (passage_at v.links e)) c.hold_back.ensures.links)
+    (lane_then v.links w.links e c.hold_back.ensures.pairs c.requires.opened
+    (hold_part t.hold (passage_at v.links e)) c.hold_back.ensures.links)
     c.hold_back.ensures.rooms c.requires.input
 
 pub run_write_filter-requires-clause-room : goal.run_write_filter-requires-clause-room
@@ -42,7 +43,8 @@ pub returns-then-not-round : goal.returns-then-not-round
 returns-then-not-round c =
     let k = c.args.self.now.links in
     let e = c.args.from in
-    sym (with_same k e) ∙ ap (λ z. with_passage e z k) (no_round c.args.round (passage_at k e) (not_so c.args.round.to_live c.if-not-round.true))
+    sym (with_same k e) ∙ ap (λ z. with_passage e z k)
+    (no_round c.args.round (passage_at k e) (not_so c.args.round.to_live c.if-not-round.true))
 
 pub returns-then-round : goal.returns-then-round
 returns-then-round c =
@@ -59,7 +61,8 @@ returns-then-round c =
     c.hold_back.ensures.links c.run_read_filter.ensures.links in
     let third = part_then k b.links d.links e pairs c.requires.opened (read_part t.mark t.ended (hold_part t.hold x)) move_part
     second c.move_input.ensures.links in
-    part_then k d.links c.run_write_filter.new.self.links e pairs c.requires.opened (move_part (read_part t.mark t.ended (hold_part t.hold x)))
+    part_then k d.links c.run_write_filter.new.self.links e pairs c.requires.opened
+    (move_part (read_part t.mark t.ended (hold_part t.hold x)))
     (write_part t.hold true) third c.run_write_filter.ensures
     ∙ ap (λ z. with_passage e z k) (whole_round t x c.if-round.true (so t.to_live c.if-not-round.false))
 

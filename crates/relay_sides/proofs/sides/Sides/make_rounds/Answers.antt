@@ -165,5 +165,6 @@ loop-from-preserved c =
           (λ eq. from ∙ c.loop-from.invariant.still eq)
           (λ eq. subst (Went t.hold (passage_at old e)) (sym from) (c.loop-from.invariant.went eq))
           c.progress-before.ensures.told once
-          (λ eq. absurd (let wrong : false ≡ true = c.if-is_same.ensures.1 (c.progress.ensures.progress ∙ eq ∙ sym c.progress-before.ensures.progress) in cc));
+          (λ eq. absurd (let wrong : false
+          ≡ true = c.if-is_same.ensures.1 (c.progress.ensures.progress ∙ eq ∙ sym c.progress-before.ensures.progress) in cc));
     }

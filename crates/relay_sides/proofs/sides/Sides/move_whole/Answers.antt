@@ -32,7 +32,8 @@ overflow_add-own c =
     let x = c.index_mut-own.result.now in
     let to_is = c.upper-2.ensures ∙ ap upper_of (peer_number e c.peer.result c.peer.ensures) in
     let empty = ap (λ (l : Lane). length l.buffers.output) (sym (lane_seen v r c.self.view_is e c.requires.opened)) ∙ c.requires.empty in
-    let count_is = c.own_input_len-count.ensures ∙ ap (λ (l : Lane). length l.buffers.input) (lane_seen v r c.self.view_is e c.requires.opened) in
+    let count_is = c.own_input_len-count.ensures
+    ∙ ap (λ (l : Lane). length l.buffers.input) (lane_seen v r c.self.view_is e c.requires.opened) in
     omega (
       arith,
       move_bound c.args.self.now c.self.inside c.self.view_is c.self.invariant c.args.from c.requires.opened c.number.result
@@ -48,7 +49,8 @@ invariant_of-self c =
     let x = c.index_mut-own.result.now in
     let to_is = c.upper-2.ensures ∙ ap upper_of (peer_number e c.peer.result c.peer.ensures) in
     let empty = ap (λ (l : Lane). length l.buffers.output) (sym (lane_seen v r c.self.view_is e c.requires.opened)) ∙ c.requires.empty in
-    let count_is = c.own_input_len-count.ensures ∙ ap (λ (l : Lane). length l.buffers.input) (lane_seen v r c.self.view_is e c.requires.opened) in
+    let count_is = c.own_input_len-count.ensures
+    ∙ ap (λ (l : Lane). length l.buffers.input) (lane_seen v r c.self.view_is e c.requires.opened) in
     are_sound r _ c.self.invariant refl refl
     (move_lasting c.args.self.now c.self.inside c.self.view_is c.self.invariant c.args.from c.requires.opened c.number.result
     c.number.ensures x c.index_mut-own.ensures.value c.upper.result c.upper-2.result c.upper.ensures to_is c.move_at.new.self c.move_at.ensures
@@ -65,7 +67,8 @@ returns-clause-links c =
     let x = c.index_mut-own.result.now in
     let to_is = c.upper-2.ensures ∙ ap upper_of (peer_number e c.peer.result c.peer.ensures) in
     let empty = ap (λ (l : Lane). length l.buffers.output) (sym (lane_seen v r c.self.view_is e c.requires.opened)) ∙ c.requires.empty in
-    let count_is = c.own_input_len-count.ensures ∙ ap (λ (l : Lane). length l.buffers.input) (lane_seen v r c.self.view_is e c.requires.opened) in
+    let count_is = c.own_input_len-count.ensures
+    ∙ ap (λ (l : Lane). length l.buffers.input) (lane_seen v r c.self.view_is e c.requires.opened) in
     move_links c.args.self.now c.self.inside c.self.view_is c.self.invariant c.args.from c.requires.opened c.number.result
     c.number.ensures x c.index_mut-own.ensures.value c.upper.result c.upper-2.result c.upper.ensures to_is c.move_at.new.self c.move_at.ensures
     empty c.own_input_len-count.result count_is
@@ -78,12 +81,14 @@ returns-clause-rooms c =
     let x = c.index_mut-own.result.now in
     let to_is = c.upper-2.ensures ∙ ap upper_of (peer_number e c.peer.result c.peer.ensures) in
     let empty = ap (λ (l : Lane). length l.buffers.output) (sym (lane_seen v r c.self.view_is e c.requires.opened)) ∙ c.requires.empty in
-    let count_is = c.own_input_len-count.ensures ∙ ap (λ (l : Lane). length l.buffers.input) (lane_seen v r c.self.view_is e c.requires.opened) in
+    let count_is = c.own_input_len-count.ensures
+    ∙ ap (λ (l : Lane). length l.buffers.input) (lane_seen v r c.self.view_is e c.requires.opened) in
     let w = c.move_at.new.self in
     record {
       raw_output = get-tabulate (λ m. (bevs_at w.slots (twin m)).lower.bev.output.spare) (2 * r.opened) (number e) 0
           (number-lt e r.opened (here v r c.self.view_is e c.requires.opened))
-          ∙ ap (λ (z : Slot). z.bev.output.spare) (move_lower c.args.self.now c.self.inside c.self.view_is c.self.invariant c.args.from c.requires.opened c.number.result
+          ∙ ap (λ (z : Slot). z.bev.output.spare)
+          (move_lower c.args.self.now c.self.inside c.self.view_is c.self.invariant c.args.from c.requires.opened c.number.result
           c.number.ensures x c.index_mut-own.ensures.value c.upper.result c.upper-2.result c.upper.ensures to_is c.move_at.new.self c.move_at.ensures
           empty c.own_input_len-count.result count_is)
           ∙ sym (raw_output_room_seen v r c.self.view_is e c.requires.opened);

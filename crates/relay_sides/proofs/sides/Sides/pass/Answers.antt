@@ -13,7 +13,8 @@ returns-in_err-changed-clause-passed c =
     let p = err_from_is_err_and c.from_residual.result c.from_residual.ensures.1 in
     subst (λ r. MatchResult r (λ _. PassedFrom c.args.hold old e new) (λ _. PartlyPassed c.args.hold old e new)) (sym p.1) (
       passage_at new e,
-      subst (λ (f : Passage → Passage). SomeRounds f (passage_at old e) (passage_at new e)) c.round_rules-round.ensures c.in_err-changed.ensures.passage,
+      subst (λ (f : Passage → Passage). SomeRounds f (passage_at old e)
+          (passage_at new e)) c.round_rules-round.ensures c.in_err-changed.ensures.passage,
       c.in_err-changed.ensures.frame,
     )
 
@@ -23,7 +24,8 @@ returns-else-changed-clause-passed c =
     let old = c.args.self.now.links in
     let mid = c.make_rounds.new.self.links in (
       passage_at mid e,
-      subst (λ (f : Passage → Passage). Passed f (passage_at old e) (passage_at mid e)) c.round_rules-round.ensures c.in_ok-changed.ensures.passage,
+      subst (λ (f : Passage → Passage). Passed f (passage_at old e)
+          (passage_at mid e)) c.round_rules-round.ensures c.in_ok-changed.ensures.passage,
       c.give_up_rooms.ensures.links ∙ c.in_ok-changed.ensures.frame,
     )
 
@@ -46,6 +48,7 @@ returns-then-changed-clause-passed c =
     let old = c.args.self.now.links in
     let mid = c.make_rounds.new.self.links in (
       passage_at mid e,
-      subst (λ (f : Passage → Passage). Passed f (passage_at old e) (passage_at mid e)) c.round_rules-round.ensures c.in_ok-changed.ensures.passage,
+      subst (λ (f : Passage → Passage). Passed f (passage_at old e)
+          (passage_at mid e)) c.round_rules-round.ensures c.in_ok-changed.ensures.passage,
       c.hand_room_back.ensures ∙ c.in_ok-changed.ensures.frame,
     )

@@ -51,7 +51,8 @@ returns-in_err-reserve_step_at-clause-kept c =
           ∙ ap (λ z. z.bev.input.spare) same
           ∙ sym (input_room_is r.opened r.world.slots r.sides.items e h (vec_capacity r.beside))
           ∙ ap (λ (z : SidesValue). input_room z.rooms e) c.self.view_is;
-      beside = subst (λ (z : SidesValue). z.rooms.beside ≤ vec_capacity c.reserve_step_at.new.beside) c.self.view_is c.reserve_step_at.ensures.beside;
+      beside = subst (λ (z : SidesValue). z.rooms.beside
+          ≤ vec_capacity c.reserve_step_at.new.beside) c.self.view_is c.reserve_step_at.ensures.beside;
     }
 
 pub invariant_of-self-2 : goal.invariant_of-self-2
@@ -106,5 +107,6 @@ returns-clause-kept c =
           ∙ ap (λ z. z.bev.input.spare) same
           ∙ sym (input_room_is r.opened r.world.slots r.sides.items e h (vec_capacity r.beside))
           ∙ ap (λ (z : SidesValue). input_room z.rooms e) c.self.view_is;
-      beside = subst (λ (z : SidesValue). z.rooms.beside ≤ vec_capacity c.reserve_step_at.new.beside) c.self.view_is c.reserve_step_at.ensures.beside;
+      beside = subst (λ (z : SidesValue). z.rooms.beside
+          ≤ vec_capacity c.reserve_step_at.new.beside) c.self.view_is c.reserve_step_at.ensures.beside;
     }

@@ -24,7 +24,8 @@ overflow_add-count c =
     let s = state_found r.sides.items (number e) c.number.result c.index-own.result.now c.number.ensures c.index-own.ensures
     (omega (arith, lt, c.self.invariant.sides)) in
     let read = ap (λ z. z.read) s in
-    let count = c.raw_input_len.ensures ∙ ap (λ (l : Lane). length l.buffers.raw_input) (lane_is r.opened r.world.slots r.sides.items e h) in
+    let count = c.raw_input_len.ensures
+    ∙ ap (λ (l : Lane). length l.buffers.raw_input) (lane_is r.opened r.world.slots r.sides.items e h) in
     let most = (c.self.invariant.counted (number e) lt).used in
     let left = c.if-room-read.false in
     let fits = c.raw_input_len.type_inv in

@@ -33,7 +33,8 @@ step_at-own-requires-clause-room c =
     (length (slot_at r.world (upper_of (number e))).bev.input.bytes) c.args.mark (slot_at r.world (upper_of (number e))).bev.input.spare
     (vec_capacity r.beside) x.read_made) (sym c.lower.ensures)
     (subst (λ (z : SideState). (let b = bevs_at r.world.slots (number e) in
-    HasStepRoom b.upper.read_filter.kind (length b.lower.bev.input.bytes) (length b.upper.bev.input.bytes) c.args.mark b.upper.bev.input.spare
+    HasStepRoom b.upper.read_filter.kind (length b.lower.bev.input.bytes)
+    (length b.upper.bev.input.bytes) c.args.mark b.upper.bev.input.spare
     (vec_capacity r.beside) z.read_made)) (sym x_is) h))
 
 pub invariant_of-self : goal.invariant_of-self
@@ -81,5 +82,6 @@ returns-clause-rooms c =
           ∙ ap (λ (z : Bevs). z.lower.bev.output.spare)
           (read-other r.world w (number e) c.args.mark c.args.ended x.read_made c.step_at-own.result g long t (twin-apart (number e)))
           ∙ sym (raw_output_room_seen c.args.self.now r c.self.view_is e c.requires.opened);
-      beside = subst (λ (z : SidesValue). z.rooms.beside ≤ vec_capacity c.step_at-own.new.beside) c.self.view_is c.step_at-own.ensures.beside;
+      beside = subst (λ (z : SidesValue). z.rooms.beside
+          ≤ vec_capacity c.step_at-own.new.beside) c.self.view_is c.step_at-own.ensures.beside;
     }

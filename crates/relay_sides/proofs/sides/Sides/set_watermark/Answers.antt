@@ -21,7 +21,8 @@ keeps_output dir.Write low high x = refl
 abbrev asked : Dir → ℕ → ℕ → PlainSide → PlainSide
 asked d low high x = record x { marks = marked d low high x.marks }
 
-is_asked : (d : Dir) (low high : ℕ) (x : BevValue) (s : SideState) → plain_side (with_marks x d low high) s ≡ asked d low high (plain_side x s)
+is_asked : (d : Dir) (low high : ℕ) (x : BevValue) (s : SideState)
+    → plain_side (with_marks x d low high) s ≡ asked d low high (plain_side x s)
 is_asked dir.Read low high x s = refl
 is_asked dir.Write low high x s = refl
 

@@ -40,7 +40,8 @@ invariant_of-self c =
     let spare : ℕ = (bev_at w c.lower.result).output.spare in
     let f = λ (s : Slot). record s { bev = record s.bev { output = less s.bev.output c.args.count spare } } in
     let g = λ (s : Slot). record s { bev = touched s.bev Write c.args.time } in
-    let p = lower_changed r.world w n c.lower.result f c.lower.ensures (omega (arith, lt, c.self.invariant.slots)) c.drain_at.ensures.bytes in
+    let p = lower_changed r.world w n c.lower.result f c.lower.ensures
+    (omega (arith, lt, c.self.invariant.slots)) c.drain_at.ensures.bytes in
     let q = lower_changed w c.touch_at.new.self n c.lower-2.result g c.lower-2.ensures
     (omega (arith, lt, p.count, c.self.invariant.slots)) c.touch_at.ensures in
     let both = then_changed n (λ (b : Bevs). record b { lower = f b.lower }) (λ (b : Bevs). record b { lower = g b.lower })
@@ -67,7 +68,8 @@ returns c =
     let spare : ℕ = (bev_at w c.lower.result).output.spare in
     let f = λ (s : Slot). record s { bev = record s.bev { output = less s.bev.output c.args.count spare } } in
     let g = λ (s : Slot). record s { bev = touched s.bev Write c.args.time } in
-    let p = lower_changed r.world w n c.lower.result f c.lower.ensures (omega (arith, lt, c.self.invariant.slots)) c.drain_at.ensures.bytes in
+    let p = lower_changed r.world w n c.lower.result f c.lower.ensures
+    (omega (arith, lt, c.self.invariant.slots)) c.drain_at.ensures.bytes in
     let q = lower_changed w c.touch_at.new.self n c.lower-2.result g c.lower-2.ensures
     (omega (arith, lt, p.count, c.self.invariant.slots)) c.touch_at.ensures in
     let both = then_changed n (λ (b : Bevs). record b { lower = f b.lower }) (λ (b : Bevs). record b { lower = g b.lower })

@@ -48,13 +48,15 @@ step_at-own-requires-clause-room c =
     let count = ap (λ (l : Lane). length l.buffers.output) (lane_seen v r c.self.view_is e c.requires.opened) in
     let h = output_room_found v r c.self.view_is e c.requires.opened c.args.hold _ c.requires.room in
     subst (λ a. HasStepRoom (slot_at r.world a).write_filter.kind (length (slot_at r.world a).bev.output.bytes)
-    (length (slot_at r.world c.lower.result).bev.output.bytes) c.args.hold (slot_at r.world c.lower.result).bev.output.spare (vec_capacity r.beside)
+    (length (slot_at r.world c.lower.result).bev.output.bytes) c.args.hold (slot_at r.world c.lower.result).bev.output.spare
+    (vec_capacity r.beside)
     x.write_made) (sym up)
     (subst (λ u. HasStepRoom (slot_at r.world (upper_of t)).write_filter.kind (length (slot_at r.world (upper_of t)).bev.output.bytes)
     (length (slot_at r.world u).bev.output.bytes) c.args.hold (slot_at r.world u).bev.output.spare (vec_capacity r.beside)
     x.write_made) (sym lo)
     (subst (λ (s : SideState). (let b = bevs_at r.world.slots t in
-    HasStepRoom b.upper.write_filter.kind (length b.upper.bev.output.bytes) (length b.lower.bev.output.bytes) c.args.hold b.lower.bev.output.spare
+    HasStepRoom b.upper.write_filter.kind (length b.upper.bev.output.bytes)
+    (length b.lower.bev.output.bytes) c.args.hold b.lower.bev.output.spare
     (vec_capacity r.beside) s.write_made)) (sym x_is)
     (subst (λ k. (let b = bevs_at r.world.slots t in
     HasStepRoom b.upper.write_filter.kind k (length b.lower.bev.output.bytes) c.args.hold b.lower.bev.output.spare
@@ -73,7 +75,8 @@ invariant_of-self c =
     let lo = c.lower.ensures ∙ ap lower_of same in
     let g = went Write t c.args.hold c.args.over c.self.inside.world w x.write_made c.step_at-own.result c.upper.result c.lower.result
     up lo c.step_at-own.ensures.crossed c.step_at-own.ensures.world c.step_at-own.ensures.made in
-    let bad = c.first_place-other.ensures ∙ ap (or_else z.bad) (c.stopped-stopped.ensures ∙ ap (λ (f : Running). f.stopped) (c.filter.ensures
+    let bad = c.first_place-other.ensures
+    ∙ ap (or_else z.bad) (c.stopped-stopped.ensures ∙ ap (λ (f : Running). f.stopped) (c.filter.ensures
     ∙ ap (λ a. (slot_at w a).write_filter) (c.upper-2.ensures ∙ ap upper_of same))) in
     are_sound c.self.inside _ c.self.invariant refl refl
     (write_lasting c.args.self.now c.self.inside c.self.view_is c.self.invariant c.args.from c.requires.opened c.number.result
@@ -96,7 +99,8 @@ returns c =
     let lo = c.lower.ensures ∙ ap lower_of same in
     let g = went Write t c.args.hold c.args.over c.self.inside.world w x.write_made c.step_at-own.result c.upper.result c.lower.result
     up lo c.step_at-own.ensures.crossed c.step_at-own.ensures.world c.step_at-own.ensures.made in
-    let bad = c.first_place-other.ensures ∙ ap (or_else z.bad) (c.stopped-stopped.ensures ∙ ap (λ (f : Running). f.stopped) (c.filter.ensures
+    let bad = c.first_place-other.ensures
+    ∙ ap (or_else z.bad) (c.stopped-stopped.ensures ∙ ap (λ (f : Running). f.stopped) (c.filter.ensures
     ∙ ap (λ a. (slot_at w a).write_filter) (c.upper-2.ensures ∙ ap upper_of same))) in
     write_links c.args.self.now c.self.inside c.self.view_is c.self.invariant c.args.from c.requires.opened c.number.result
     c.number.ensures x c.index_mut-own.ensures.value c.args.hold c.args.over w c.step_at-own.result c.first_place-other.result g
