@@ -50,6 +50,7 @@ module _ {S : Type 0} (filter : S → Filter) (reached : S → Reached) (known :
       PassesBy filter reached known dir limit mode (Ok step) before after
   passed-on step steps trades = record {
     same = steps.same ∙ ap filter same;
+    trades = (bytes, trades);
     tells = λ past k.
         let h = subst (λ t. Tells (Ok step) (known next) t past src (reached next) target filled) (step-is past)
         (steps.tells past (subst (λ x. known x past) (sym same) k)) in
@@ -63,6 +64,7 @@ module _ {S : Type 0} (filter : S → Filter) (reached : S → Reached) (known :
       PassesBy filter reached known dir limit mode (Err (Bad place)) before after
   passed-bad used place steps trades = record {
     same = steps.same ∙ ap filter same;
+    trades = (used, bytes, trades);
     tells = λ past k.
         let h = subst (λ t. Tells (Err (BadByte used place)) (known next) t past src (reached next) target filled) (step-is past)
         (steps.tells past (subst (λ x. known x past) (sym same) k)) in

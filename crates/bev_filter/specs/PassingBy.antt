@@ -42,6 +42,13 @@ TellsPassed reached known dir (Err (Bad place)) t past before after =
 TellsPassed reached known dir (Err Memory) t past before after = ⊤
 TellsPassed reached known dir (Err Spent) t past before after = ⊤
 
+-- Where a step was made, bytes went from the one to the other, whatever the filter used before.
+abbrev pub Traded : {S : Type 0} → Dir → Result Step PassFault → Between S → Between S → Type 0
+Traded dir (Ok step) before after = ((made : List ℕ) × Trades dir step.used made before.from before.to after.from after.to)
+Traded dir (Err (Bad place)) before after = ((used : ℕ) × (made : List ℕ) × Trades dir used made before.from before.to after.from after.to)
+Traded dir (Err Memory) before after = ⊤
+Traded dir (Err Spent) before after = ⊤
+
 -- want of memory changed nothing, and neither did Spent
 abbrev pub AllKept : {A : Type 0} → Result Step PassFault → A → A → Type 0
 AllKept (Ok step) before after = ⊤
@@ -54,6 +61,7 @@ AllKept (Err Spent) before after = after ≡ before
 pub record PassesBy {S : Type 0} (filter : S → Filter) (reached : S → Reached) (known : S → List ℕ → Type 0) (dir : Dir) (limit : ℕ)
     (mode : Mode) (result : Result Step PassFault) (before after : Between S) : Type 0 where
   pub same : filter after.by ≡ filter before.by
+  pub trades : Traded dir result before after
   pub tells : (past : List ℕ) → known before.by past →
       TellsPassed reached known dir result
       (taken (filter before.by) past (reached before.by) (is_last mode) limit (length (held before.to dir).bytes)

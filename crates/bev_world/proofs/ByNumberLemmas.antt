@@ -1,8 +1,7 @@
--- Two slots of a list that are written, each in its own part of it: which they were, and what a world keeps and shows then.
-use Rattle.std.proofs.Common.{◌≡◌, ℕ, ◌+◌, ◌<◌, Bool, List, ◌++◌, length, Some, refl, sym, ◌∙◌, ap, subst, arith, length-append}
+-- A step by number between two slots of a list: what a world keeps and shows then.
+use Rattle.std.proofs.Common.{◌≡◌, ℕ, ◌<◌, Bool, List, length, Some, refl, sym, ◌∙◌, ap, subst, arith}
 use Rattle.std.specs.Prelude.{slice_index_or, slice_set}
-use Rattle.std.proofs.lemmas.List.{get_or_default, get_or_append_left, get_or-append-add, get_or-set_same, get_or-set_other, length-set}
-use Rattle.std.proofs.lemmas.List.{set-append_left, set-append_right}
+use Rattle.std.proofs.lemmas.List.{get_or-set_same, get_or-set_other, length-set}
 use Rattle.std.proofs.lemmas.Option.{none-some, same_Some}
 use Rattle.token_bucket.specs.declared.limit.Dir.{Dir}
 use Rattle.token_bucket.specs.declared.limit.Dir.TheVariants.{Read, Write}
@@ -18,37 +17,6 @@ use Rattle.bev_world.specs.FilterSlots.{slots_crossing}
 use Rattle.bev_world.specs.ByNumber.{SlotsWent, filter_of, with_spare_in, target_of}
 use Rattle.bev_world.proofs.FiltersLemmas.{Stays, crossed-stays}
 use Rattle.bev_world.proofs.HoldsLemmas.{holds-with}
-
--- Lists
-
--- what is read in the part in front, and what is read first in the part behind
-pub read-front : (xs f b : List Slot) (n : ℕ) (d : Slot) → xs ≡ f ++ b → n < length f → slice_index_or f n d ≡ slice_index_or xs n no_slot
-read-front xs f b n d parts within =
-    get_or_default f n d no_slot within ∙ sym (get_or_append_left f b no_slot n within)
-    ∙ ap (λ ys. slice_index_or ys n no_slot) (sym parts)
-
-pub read-back : (xs f b : List Slot) (at : ℕ) (d : Slot) → xs ≡ f ++ b → length f ≡ at → at < length xs →
-    slice_index_or b 0 d ≡ slice_index_or xs at no_slot
-read-back xs f b at d parts long there =
-    get_or_default b 0 d no_slot some ∙ sym (get_or-append-add f b 0 no_slot)
-    ∙ ap (λ n. slice_index_or (f ++ b) n no_slot) place ∙ ap (λ ys. slice_index_or ys at no_slot) (sym parts)
-  where
-    place : length f + 0 ≡ at
-    place = omega (arith, long)
-
-    some : 0 < length b
-    some = let all = ap length parts ∙ length-append f b in omega (arith, all, long, there)
-
--- both were written
-pub both-set : (xs f b : List Slot) (at under : ℕ) (l o : Slot) → xs ≡ f ++ b → length f ≡ at → under < at →
-    slice_set f under l ++ slice_set b 0 o ≡ slice_set (slice_set xs under l) at o
-both-set xs f b at under l o parts long below =
-    sym (ap (λ ys. slice_set (slice_set ys under l) at o) parts
-    ∙ ap (λ ys. slice_set ys at o) (set-append_left f b under l (omega (arith, long, below)))
-    ∙ set-append_right (slice_set f under l) b at at o (length-set f under l ∙ long) (omega arith)
-    ∙ ap (λ k. slice_set f under l ++ slice_set b k o) (omega arith))
-
--- Steps
 
 -- what is under a filter was made before it
 pub joined-below : (count n : ℕ) (k : Kind) (under : ℕ) → IsJoined count n k → under_of k ≡ Some under → under < n

@@ -10,13 +10,12 @@ use Rattle.stream_filters.specs.declared.stream_filter.Step.{Step}
 use Rattle.stream_filters.specs.StepAnswers.{is_spent}
 use Rattle.bev_core.specs.BevValue.{reaches_low}
 use Rattle.bev_core.specs.Steps.{held}
-use Rattle.bev_filter.specs.declared.fault.PassFault.{PassFault}
-use Rattle.bev_filter.specs.declared.fault.PassFault.TheVariants as pass
 use Rattle.bev_filter.specs.Passing.{Crossing, Passes}
 use Rattle.bev_world.specs.declared.fault.WorldFault.{WorldFault}
 use Rattle.bev_world.specs.declared.fault.WorldFault.TheVariants as fault
 use Rattle.bev_world.specs.declared.slot.Kind.{Kind}
 use Rattle.bev_world.specs.declared.slot.Kind.TheVariants as kind
+use Rattle.bev_world.specs.PassAnswers.{ByAnswer}
 use Rattle.bev_world.specs.Refusals.{live_refusal}
 use Rattle.bev_world.specs.WorldValue.{WorldValue, slot_at, bev_at, with_slot, with_bev, raised_if}
 
@@ -43,24 +42,16 @@ crossed w Write n under p =
     raised_if (nat_lt (length p.from.output.bytes) (length (bev_at w n).output.bytes) && reaches_low p.from Write)
     (with_slot (with_bev w under p.to) n (record (slot_at w n) { bev = p.from; write_filter = p.filter })) n why.Write
 
--- the step of a filter went so
-pub record Passed (dir : Dir) (limit : ℕ) (mode : Mode) (n under : ℕ) (answer : Result Step PassFault) (w new : WorldValue) : Type 0 where
+-- a step after which this holds of what went from the one to the other, and the world is as that left them
+pub record Passed (passes : Crossing → Type 0) (dir : Dir) (n under : ℕ) (w new : WorldValue) : Type 0 where
   pub after : Crossing
-  pub passes : Passes dir limit mode answer (crossing w dir n under) after
+  pub passed : passes after
   pub world : new ≡ crossed w dir n under after
 
 -- Bytes have passed where the step was made, and those before a bad one where it met one; else nothing has changed.
 abbrev pub PassedOr : Dir → ℕ → Mode → ℕ → ℕ → Result Step WorldFault → WorldValue → WorldValue → Type 0
-PassedOr dir limit mode n under (Ok step) w new = Passed dir limit mode n under (Ok step) w new
-PassedOr dir limit mode n under (Err (fault.Filter place)) w new = Passed dir limit mode n under (Err (pass.Filter place)) w new
-PassedOr dir limit mode n under (Err fault.Memory) w new = new ≡ w
-PassedOr dir limit mode n under (Err fault.NotLive) w new = new ≡ w
-PassedOr dir limit mode n under (Err fault.NotSocket) w new = new ≡ w
-PassedOr dir limit mode n under (Err fault.IdsSpent) w new = new ≡ w
-PassedOr dir limit mode n under (Err fault.Taken) w new = new ≡ w
-PassedOr dir limit mode n under (Err fault.NoFilter) w new = new ≡ w
-PassedOr dir limit mode n under (Err fault.TooManyRefs) w new = new ≡ w
-PassedOr dir limit mode n under (Err fault.Spent) w new = new ≡ w
+PassedOr dir limit mode n under answer w new =
+    ByAnswer (λ answer. Passed (Passes dir limit mode answer (crossing w dir n under)) dir n under w new) (new ≡ w) answer
 
 -- of a bufferevent that is no filter nothing changes
 abbrev pub PassedAt : Option ℕ → Dir → ℕ → Mode → ℕ → Result Step WorldFault → WorldValue → WorldValue → Type 0

@@ -5,7 +5,9 @@ pub mod FilterSlots
 pub mod Filters
 pub mod Halves
 pub mod Heard
+pub mod LentFilters
 pub mod Moved
+pub mod PassAnswers
 pub mod Passed
 pub mod Refusals
 pub mod Runs

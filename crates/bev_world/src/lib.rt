@@ -3,6 +3,7 @@
 
 mod callback;
 mod fault;
+mod passage;
 mod roster;
 mod slot;
 mod world;
@@ -12,5 +13,5 @@ pub use callback::Callback;
 pub use ev_types::{BevId, FilterKind, Flags, Mode, NoMemory, Why};
 pub use fault::WorldFault;
 pub use roster::{Roster, run_due};
-pub use stream_filters::{AnyFilter, Step};
+pub use stream_filters::{AnyFilter, Step, StreamFilter};
 pub use world::World;

@@ -1,21 +1,23 @@
 // Bytes that go through the filters of a filter bufferevent.
-ghost use Rattle.std.specs.Prelude.{◌≡◌, ◌<◌, ◌&&◌, nat_lt, true, None, Some, length, slice_index_or, slice_set, IfOk};
+ghost use Rattle.std.specs.Prelude.{◌≡◌, ◌<◌, ◌&&◌, nat_lt, true, Some, length, slice_index_or, slice_set, IfOk};
 ghost use Rattle.byte_queue.specs.MemoryAnswers.{fault_of};
 ghost use Rattle.token_bucket.specs.declared.limit.Dir.TheVariants as dir_of;
 ghost use Rattle.bev_core.specs.BevValue.{reaches_low};
-ghost use Rattle.bev_world.specs.Filters.{IsOpen, PassedAt, PassedOr, AnswersPass, pass_refusal, under_of, crossing};
-ghost use Rattle.bev_world.specs.FilterSlots.{slots_crossing, StepMadeOr, IsOpenFor, spent_refusal, below_refusal};
+ghost use Rattle.bev_world.specs.Filters.{IsOpen, PassedAt, AnswersPass, pass_refusal, under_of, crossing};
+ghost use Rattle.bev_world.specs.FilterSlots.{slots_crossing, StepMadeOr, spent_refusal, below_refusal};
+ghost use Rattle.bev_world.specs.LentFilters.{AsksForEnd, LentPassedAt, PassedOrKept, lent_refusal};
 ghost use Rattle.bev_world.specs.Went.{Went};
 ghost use Rattle.bev_world.specs.WorldValue.{no_slot, slot_at, is_live};
 
 use super::World;
 use super::events::reason_of;
 use crate::fault::WorldFault;
+use crate::passage::{LentFilter, OwnFilter, Passage};
 use crate::slot::{Kind, Slot};
 use bev_core::Dir;
-use bev_filter::{PassFault, process_input, process_output};
+use bev_filter::PassFault;
 use ev_types::{BevId, Mode};
-use stream_filters::Step;
+use stream_filters::{Step, StreamFilter};
 
 impl World {
     /// Runs the read or the write filter of a filter bufferevent once: what is read goes from the input of the one under it to its
@@ -46,7 +48,46 @@ impl World {
     {
         let at = self.find(id)?;
         let under = self.find_under(at)?;
-        self.pass_at(at, under, dir, limit, mode)
+        self.pass_at(at, under, dir, &mut OwnFilter, limit, mode)
+    }
+
+    /// Runs a filter of the caller's once, in place of the read or the write filter of a filter bufferevent, as `pass` runs that: the
+    /// same bytes go the same way up to the same limit, the same reasons become due, and the bufferevent's own filters stay as they are.
+    ///
+    /// The filter is lent for the call and stands outside of the world, as the boxes of a `Roster` do, so that its type is the caller's
+    /// and its definition is known in what is proved of the call. A filter that keeps something of the stream is lent to each step of
+    /// one direction of one bufferevent, over which a filter of kind None both ways can be made.
+    ///
+    /// It is asked, of a finished filter, for no bytes and for the mode Finished. Refused as `pass` is, where NotLive, NoFilter, Spent and
+    /// want of memory leave the filter as it was too; Filter comes where the filter finds the next byte bad, or the end, and there is room:
+    /// the bytes before it have passed. Takes memory for what the filter makes, twice; the cost is that of the filter's step, and
+    /// linear in what passes.
+    ///
+    /// Libevent: event2/bufferevent.h, `bufferevent_filter_new`; "Bufferevents: advanced topics", filters.
+    /// Differs: the filter stays the caller's, who says when bytes pass.
+    pub fn pass_by<F: StreamFilter>(
+        &mut self,
+        id: BevId,
+        dir: Dir,
+        filter: &mut F,
+        limit: usize,
+        mode: Mode,
+    ) -> Result<Step, WorldFault>
+        requires open { (F.reached filter.old).finished ≡ true → is_live self.old id.0 ≡ true →
+            AsksForEnd (under_of (slot_at self.old id.0).kind) self.old dir id.0 mode }
+        ensures answer { AnswersPass result (lent_refusal (F.reached filter.old) self.old dir id.0) }
+        ensures passed { LentPassedAt F.filter F.reached F.known (under_of (slot_at self.old id.0).kind) dir limit mode id.0 result
+            filter.old filter.new self.old self.new }
+        ensures spare { self.new.spare ≡ self.old.spare }
+        ensures went { Went self.old self.new }
+    {
+        let at = self.find(id)?;
+        let under = self.find_under(at)?;
+        let mut lent = LentFilter(filter.copied());
+        let answer = self.pass_at(at, under, dir, &mut lent, limit, mode);
+        let LentFilter(next) = lent;
+        *filter = next;
+        answer
     }
 
     // The place of the bufferevent under a filter, where that is live.
@@ -62,11 +103,13 @@ impl World {
         }
     }
 
-    fn pass_at(
+    // A step of a passage between a filter and the bufferevent under it.
+    fn pass_at<P: Passage>(
         &mut self,
         at: usize,
         under: usize,
         dir: Dir,
+        passage: &mut P,
         limit: usize,
         mode: Mode,
     ) -> Result<Step, WorldFault>
@@ -74,24 +117,26 @@ impl World {
         requires below { under < at }
         requires live { is_live self.old at ≡ true }
         requires under_live { is_live self.old under ≡ true }
-        requires open { IsOpen (Some under) self.old dir at mode }
-        ensures answer { AnswersPass result (spent_refusal (crossing self.old dir at under) dir) }
-        ensures passed { PassedOr dir limit mode at under result self.old self.new }
+        requires open { P.may_step passage.old dir mode (crossing self.old dir at under) }
+        ensures answer { AnswersPass result (spent_refusal (P.spent passage.old dir (crossing self.old dir at under))) }
+        ensures passed { PassedOrKept (P.passes dir limit mode passage.old passage.new (crossing self.old dir at under))
+            (passage.new ≡ passage.old) dir at under result self.old self.new }
         ensures spare { self.new.spare ≡ self.old.spare }
         ensures went { Went self.old self.new }
     {
-        let (answer, due) = pass_slots(&mut self.slots, at, under, dir, limit, mode);
+        let (answer, due) = pass_slots(&mut self.slots, at, under, dir, passage, limit, mode);
         self.raise_if(due, at, reason_of(dir));
         answer
     }
 }
 
 // A step between two slots of a list. Answers too whether the reason of the direction is due.
-fn pass_slots(
+fn pass_slots<P: Passage>(
     slots: &mut [Slot],
     at: usize,
     under: usize,
     dir: Dir,
+    passage: &mut P,
     limit: usize,
     mode: Mode,
 ) -> (Result<Step, WorldFault>, bool)
@@ -99,54 +144,62 @@ fn pass_slots(
     requires below { under < at }
     requires live { (slice_index_or slots.old at no_slot).bev.live ≡ true }
     requires under_live { (slice_index_or slots.old under no_slot).bev.live ≡ true }
-    requires open { IsOpenFor (slots_crossing dir (slice_index_or slots.old under no_slot) (slice_index_or slots.old at no_slot)) dir mode }
-    ensures answer { AnswersPass result.0
-        (spent_refusal (slots_crossing dir (slice_index_or slots.old under no_slot) (slice_index_or slots.old at no_slot)) dir) }
-    ensures passed { StepMadeOr dir limit mode result.0 (slice_index_or slots.old under no_slot) (slice_index_or slots.old at no_slot)
+    requires open { let p = slots_crossing dir (slice_index_or slots.old under no_slot) (slice_index_or slots.old at no_slot) in
+        P.may_step passage.old dir mode p }
+    ensures answer { let p = slots_crossing dir (slice_index_or slots.old under no_slot) (slice_index_or slots.old at no_slot) in
+        AnswersPass result.0 (spent_refusal (P.spent passage.old dir p)) }
+    ensures passed { let p = slots_crossing dir (slice_index_or slots.old under no_slot) (slice_index_or slots.old at no_slot) in
+        StepMadeOr (P.passes dir limit mode passage.old passage.new p) (passage.new ≡ passage.old) dir result.0
+        (slice_index_or slots.old under no_slot) (slice_index_or slots.old at no_slot)
         (slice_index_or slots.new under no_slot) (slice_index_or slots.new at no_slot) result.1 }
     ensures slots { slots.new ≡ slice_set (slice_set slots.old under (slice_index_or slots.new under no_slot)) at
         (slice_index_or slots.new at no_slot) }
 {
     let (front, back) = slots.split_at_mut(at);
-    pass_between(&mut front[under], &mut back[0], dir, limit, mode)
+    pass_between(&mut front[under], &mut back[0], dir, passage, limit, mode)
 }
 
 // A step between the slot under a filter and its own.
-fn pass_between(
+fn pass_between<P: Passage>(
     lower: &mut Slot,
     over: &mut Slot,
     dir: Dir,
+    passage: &mut P,
     limit: usize,
     mode: Mode,
 ) -> (Result<Step, WorldFault>, bool)
     requires live { over.old.bev.live ≡ true }
     requires under_live { lower.old.bev.live ≡ true }
-    requires open { IsOpenFor (slots_crossing dir lower.old over.old) dir mode }
-    ensures answer { AnswersPass result.0 (spent_refusal (slots_crossing dir lower.old over.old) dir) }
-    ensures passed { StepMadeOr dir limit mode result.0 lower.old over.old lower.new over.new result.1 }
+    requires open { P.may_step passage.old dir mode (slots_crossing dir lower.old over.old) }
+    ensures answer { AnswersPass result.0 (spent_refusal (P.spent passage.old dir (slots_crossing dir lower.old over.old))) }
+    ensures passed { StepMadeOr (P.passes dir limit mode passage.old passage.new (slots_crossing dir lower.old over.old))
+        (passage.new ≡ passage.old) dir result.0 lower.old over.old lower.new over.new result.1 }
 {
     match dir {
-        Dir::Read => pass_read(lower, over, limit, mode),
-        Dir::Write => pass_written(lower, over, limit, mode),
+        Dir::Read => pass_read(lower, over, passage, limit, mode),
+        Dir::Write => pass_written(lower, over, passage, limit, mode),
     }
 }
 
 // What is read goes up.
-fn pass_read(
+fn pass_read<P: Passage>(
     lower: &mut Slot,
     over: &mut Slot,
+    passage: &mut P,
     limit: usize,
     mode: Mode,
 ) -> (Result<Step, WorldFault>, bool)
     requires live { over.old.bev.live ≡ true }
     requires under_live { lower.old.bev.live ≡ true }
-    requires open { IsOpenFor (slots_crossing dir_of.Read lower.old over.old) dir_of.Read mode }
-    ensures answer { AnswersPass result.0 (spent_refusal (slots_crossing dir_of.Read lower.old over.old) dir_of.Read) }
-    ensures passed { StepMadeOr dir_of.Read limit mode result.0 lower.old over.old lower.new over.new result.1 }
+    requires open { P.may_step passage.old dir_of.Read mode (slots_crossing dir_of.Read lower.old over.old) }
+    ensures answer { AnswersPass result.0
+        (spent_refusal (P.spent passage.old dir_of.Read (slots_crossing dir_of.Read lower.old over.old))) }
+    ensures passed { StepMadeOr (P.passes dir_of.Read limit mode passage.old passage.new (slots_crossing dir_of.Read lower.old over.old))
+        (passage.new ≡ passage.old) dir_of.Read result.0 lower.old over.old lower.new over.new result.1 }
 {
     let had = over.bev.state().input;
-    let filter = &mut over.read_filter;
-    match process_input(&mut lower.bev, &mut over.bev, filter, limit, mode) {
+    let own = &mut over.read_filter;
+    match passage.process(&mut lower.bev, &mut over.bev, own, Dir::Read, limit, mode) {
         Ok(step) => (Ok(step), came(lower, over, had)),
         Err(PassFault::Filter(place)) => (Err(WorldFault::Filter(place)), came(lower, over, had)),
         Err(PassFault::Memory) => (Err(WorldFault::Memory), false),
@@ -155,21 +208,24 @@ fn pass_read(
 }
 
 // What is written goes down.
-fn pass_written(
+fn pass_written<P: Passage>(
     lower: &mut Slot,
     over: &mut Slot,
+    passage: &mut P,
     limit: usize,
     mode: Mode,
 ) -> (Result<Step, WorldFault>, bool)
     requires live { over.old.bev.live ≡ true }
     requires under_live { lower.old.bev.live ≡ true }
-    requires open { IsOpenFor (slots_crossing dir_of.Write lower.old over.old) dir_of.Write mode }
-    ensures answer { AnswersPass result.0 (spent_refusal (slots_crossing dir_of.Write lower.old over.old) dir_of.Write) }
-    ensures passed { StepMadeOr dir_of.Write limit mode result.0 lower.old over.old lower.new over.new result.1 }
+    requires open { P.may_step passage.old dir_of.Write mode (slots_crossing dir_of.Write lower.old over.old) }
+    ensures answer { AnswersPass result.0
+        (spent_refusal (P.spent passage.old dir_of.Write (slots_crossing dir_of.Write lower.old over.old))) }
+    ensures passed { StepMadeOr (P.passes dir_of.Write limit mode passage.old passage.new (slots_crossing dir_of.Write lower.old over.old))
+        (passage.new ≡ passage.old) dir_of.Write result.0 lower.old over.old lower.new over.new result.1 }
 {
     let had = over.bev.state().output;
-    let filter = &mut over.write_filter;
-    match process_output(&mut lower.bev, &mut over.bev, filter, limit, mode) {
+    let own = &mut over.write_filter;
+    match passage.process(&mut lower.bev, &mut over.bev, own, Dir::Write, limit, mode) {
         Ok(step) => (Ok(step), gone(over, had)),
         Err(PassFault::Filter(place)) => (Err(WorldFault::Filter(place)), gone(over, had)),
         Err(PassFault::Memory) => (Err(WorldFault::Memory), false),

@@ -1,8 +1,7 @@
 use Rattle.std.proofs.Common.{◌+◌, ◌∙◌, length, arith}
 use Rattle.bev_filter.specs.Passing.{stepping}
 use Rattle.bev_world.specs.FilterSlots.{slots_crossing}
-use Rattle.bev_world.proofs.ByNumberLemmas.{read-front, read-back}
-use Rattle.bev_world.proofs.FiltersLemmas.{split-set}
+use Rattle.bev_world.proofs.FiltersLemmas.{split-set, read-front, read-back}
 use Rattle.bev_world.proofs.world.by_number.step_slots.Goals as goal
 
 pub returns-clause-slots : goal.returns-clause-slots

@@ -1,7 +1,7 @@
 use Rattle.std.proofs.Common.{◌<◌, ◌∙◌, slice_set, arith}
 use Rattle.std.proofs.lemmas.List.{set_comm}
 use Rattle.bev_world.specs.ByNumber.{output_swapped, input_swapped}
-use Rattle.bev_world.proofs.ByNumberLemmas.{read-front, read-back, both-set}
+use Rattle.bev_world.proofs.FiltersLemmas.{read-front, read-back, both-set}
 use Rattle.bev_world.proofs.world.by_number.swap_slots.Goals as goal
 
 pub returns-then-from-to : goal.returns-then-from-to
