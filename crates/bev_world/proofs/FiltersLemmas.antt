@@ -186,8 +186,8 @@ step-stays : (R : Going) (kept : Type 0) (dir : Dir) (r : Result Step WorldFault
     StepMadeOr (R (slots_crossing dir lower over)) kept dir r lower over l o due → Stays lower l × Stays over o
 step-stays R kept dir r lower over l o due =
     by-answer r
-    (λ a (m : StepMade (R
-    (slots_crossing dir lower over) a) dir lower over l o due). left-stays dir lower over l o m.after m.from_is m.to_is m.lower_is m.over_is)
+    (λ a (m : StepMade (R (slots_crossing dir lower over) a) dir lower over l o due).
+    left-stays dir lower over l o m.after m.from_is m.to_is m.lower_is m.over_is)
     (λ (m : NoStep lower over l o due × kept). (stays-same lower l m.0.0, stays-same over o m.0.1))
 
 -- The list and the world
