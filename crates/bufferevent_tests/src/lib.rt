@@ -11,6 +11,8 @@ mod due;
 #[cfg(test)]
 mod filters;
 #[cfg(test)]
+mod lent;
+#[cfg(test)]
 mod pairs;
 #[cfg(test)]
 mod sockets;

@@ -22,7 +22,7 @@ use stream_filters::{Step, StreamFilter};
 impl World {
     /// Runs the read or the write filter of a filter bufferevent once: what is read goes from the input of the one under it to its
     /// own input, what is written from its own output to the output of the one under it, until all is used or the target holds at
-    /// least `limit` bytes, as `process_input` and `process_output` of bev_filter say. No other call runs a filter. The reason of
+    /// least `limit` bytes, as `process_input` and `process_output` of bev_filter say. No other call by identifier runs them. The reason of
     /// reading becomes due where bytes came to the input and it is at least as long as its read low mark, the reason of writing
     /// where bytes left the output and it is at most as long as its write low mark.
     ///
