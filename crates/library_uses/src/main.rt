@@ -9,6 +9,7 @@ mod deadlines;
 mod due;
 mod filters;
 mod idle_links;
+mod lent_filter;
 mod limited_links;
 mod limits;
 mod lines;
@@ -31,6 +32,7 @@ fn main(rt: HostRuntime) -> anyhow::Result<()> {
     bufferevents::back_pressure(&rt, alloc)?;
     filters::line_ends(&rt, alloc)?;
     own_filter::without_zeros(&rt, alloc)?;
+    lent_filter::zeros_of_a_socket(&rt, alloc)?;
     due::joined_reasons(&rt, alloc)?;
     callbacks::callbacks_that_free(&rt, alloc)?;
     numbers::busy_jobs(&rt, alloc)?;

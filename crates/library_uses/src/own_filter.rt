@@ -1,5 +1,5 @@
 // A filter of one's own: it drops every byte 0. It is proved against its definition, and passes bytes between two bufferevents.
-ghost use Rattle.std.specs.Prelude.{◌≡◌, ◌≤◌, ◌+◌, ◌&&◌, length, vec_len, vec_capacity};
+ghost use Rattle.std.specs.Prelude.{◌≡◌, ◌≤◌, ◌+◌, ◌&&◌, false, length, vec_len, vec_capacity};
 ghost use Rattle.library_uses.specs.NoZeros.{but_zero};
 ghost use Rattle.stream_filters.specs.Bytewise.{GivesBytes};
 ghost use Rattle.stream_filters.specs.StepAnswers.{is_last};
@@ -12,9 +12,21 @@ use stream_filters::{FilterFault, Mode, Step, StreamFilter};
 
 /// Drops every byte 0.
 #[derive(Drop)]
-struct NoZeros {
+pub(crate) struct NoZeros {
     used: u64,
     finished: bool,
+}
+
+impl NoZeros {
+    /// One that has used nothing.
+    pub(crate) fn new() -> NoZeros
+        ensures { result ≡ record { used = 0; finished = false } }
+    {
+        NoZeros {
+            used: 0,
+            finished: false,
+        }
+    }
 }
 
 impl StreamFilter for NoZeros {
@@ -109,10 +121,7 @@ pub fn without_zeros(rt: &impl Print, alloc: Global) -> anyhow::Result<()> {
 fn pass(rt: &impl Print, alloc: Global, under: &mut Bev) -> anyhow::Result<()> {
     under.feed(Dir::Read, b"\0a\0\0bc\0d\0")?;
     let mut over = Bev::new(alloc)?;
-    let mut filter = NoZeros {
-        used: 0,
-        finished: false,
-    };
+    let mut filter = NoZeros::new();
     let first = process_input_by(under, &mut over, &mut filter, 3, Mode::Finished)?;
     println!(rt; "{} bytes used, {} passed", first.used, over.len(Dir::Read))?;
     if filter.is_finished() {
