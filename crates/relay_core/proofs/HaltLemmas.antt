@@ -128,6 +128,18 @@ noted-next xs ys gs at lt is before = go (slice_get gs at) refl is
           subst (λ zs. AreNoted (at + 1) zs gs) same (next g here),
         )
 
+-- the other groups' notes stay
+pub noted-later : (xs ys : List Halts) (gs : List GroupValue) (at : ℕ) →
+    option_map (λ h. slice_set xs at h) (option_map halts_of (slice_get gs at)) ≡ Some ys → (k : ℕ) → k ≢ at →
+    slice_get ys k ≡ slice_get xs k
+noted-later xs ys gs at is k apart = go (slice_get gs at) is
+  where
+    go : (o : Option GroupValue) → option_map (λ h. slice_set xs at h) (option_map halts_of o) ≡ Some ys → slice_get ys k ≡ slice_get xs k
+    go None is = absurd (let wrong : None ≡ Some ys = is in cc)
+    go (Some g) is =
+        let same : slice_set xs at (halts_of g) ≡ ys = ap (λ o. unwrap_or o xs) is in
+        ap (λ zs. slice_get zs k) (sym same) ∙ set-other xs at k (halts_of g) apart
+
 -- in the end of all
 pub noted-all : (xs : List Halts) (gs : List GroupValue) → length xs ≡ length gs → AreNoted (length gs) xs gs → xs ≡ map halts_of gs
 noted-all [] [] same h = refl

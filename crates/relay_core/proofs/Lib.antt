@@ -10,3 +10,4 @@ pub mod GainLemmas
 pub mod WatchLemmas
 pub mod SkipLemmas
 pub mod RestLemmas
+pub mod RunningLemmas

@@ -1,14 +1,15 @@
 -- The steps of closing as the code names them: their order, what they change, and what they put into the trace. A step that frees both
 -- sides of a link is two for the model, and here it is one.
-use Rattle.std.specs.Prelude.{ℕ, List, [], ◌∷◌, Option, Some, None, option_map}
+use Rattle.std.specs.Prelude.{◌≡◌, ℕ, Bool, false, ◌&&◌, not, is_some, List, [], ◌∷◌, Option, Some, None, option_map}
+use Rattle.std.specs.List.{All}
 use Rattle.ev_types.specs.declared.why.Cause.TheVariants as cause
 use Rattle.ev_types.specs.declared.entry.Entry.{Entry}
 use Rattle.ev_types.specs.declared.entry.Entry.TheVariants as entry
 use Rattle.ev_types.specs.Trace.{Trace}
-use Rattle.relay_model.specs.Plain.{side_at}
+use Rattle.relay_model.specs.Plain.{PlainSide, side_at}
 use Rattle.relay_model.specs.Close.{CloseStep, fault, freed_entry}
 use Rattle.relay_state.specs.State.{State}
-use Rattle.relay_state.specs.Closing.{in_side, out_side, closed}
+use Rattle.relay_state.specs.Closing.{in_side, out_side, closed, closing_entry}
 use Rattle.relay_core.specs.declared.close.Closing.{Closing}
 use Rattle.relay_core.specs.declared.close.Closing.TheVariants as closing
 
@@ -34,6 +35,22 @@ close_step (closing.EndWriting e) = CloseStep.EndWriting e
 close_step (closing.BothDone k) = CloseStep.BothDone k
 close_step (closing.PeerGone e) = CloseStep.PeerGone e
 close_step (closing.Shut e) = CloseStep.Shut e
+
+-- this step of closing is not called for
+abbrev pub IsUncalled : State → Closing → Type 0
+IsUncalled s step = is_some (closing_entry s (close_step step)) ≡ false
+
+-- closing has nothing to do at this link
+abbrev pub IsSettled : State → ℕ → Type 0
+IsSettled s k = All (IsUncalled s) (steps_of k)
+
+-- a side was not freed, has not ended and is not faulty, and writing was not ended at it
+abbrev pub is_running_side : PlainSide → Bool
+is_running_side x = x.live && (not x.ended && (not x.write_ended && not (is_some (fault x))))
+
+-- so it is of both sides of a link
+abbrev pub is_running : State → ℕ → Bool
+is_running s k = is_running_side (side_at s.plain (in_side k)) && is_running_side (side_at s.plain (out_side k))
 
 -- what a step changes
 abbrev pub after_closing : State → Closing → State

@@ -5,7 +5,7 @@ ghost use Rattle.relay_model.specs.Plain as plain;
 ghost use Rattle.relay_model.specs.Close.{closing_of, fault};
 ghost use Rattle.relay_state.specs.State.{lane_at, with_plain, with_lane, lane_left, lane_lost};
 ghost use Rattle.relay_state.specs.Closing.{is_complete, closing_entry, freed};
-ghost use Rattle.relay_core.specs.Steps.{steps_of, link_of_step, close_step, after_closing};
+ghost use Rattle.relay_core.specs.Steps.{steps_of, link_of_step, close_step, after_closing, is_running_side, is_running, IsSettled};
 
 use crate::relay::Relay;
 use ev_types::{Cause, Side, SideId};
@@ -92,6 +92,32 @@ impl Relay {
             }
             Closing::Shut(side) => { !sides.is_live(side) && !sides.flags(side).closed }
         }
+    }
+
+    /// Whether a side was not freed, has not ended and is not faulty, and writing was not ended at it.
+    fn is_running_side(&self, side: SideId) -> bool
+        requires { side.link < self.now.state.plain.opened }
+        ensures { result ≡ is_running_side (side_at self.now.state.plain side) }
+    {
+        let sides = &self.ctl.sides;
+        let flags = sides.flags(side);
+        flags.live && !flags.ended && !flags.write_ended && sides.fault(side).is_none()
+    }
+
+    /// Whether no side of a link was freed, has ended or is faulty, and writing was ended at neither. Then no step of closing is called
+    /// for. Constant; takes no memory.
+    ///
+    /// Own.
+    pub fn is_running(&self, link: u32) -> bool
+        requires { link < self.now.state.plain.opened }
+        ensures running { result ≡ is_running self.now.state link }
+        ensures settled { result ≡ true → IsSettled self.now.state link }
+    {
+        let near = SideId {
+            link,
+            side: Side::In,
+        };
+        self.is_running_side(near) && self.is_running_side(near.peer())
     }
 
     /// Makes the change of a step of closing. Takes no memory; constant.

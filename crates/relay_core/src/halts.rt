@@ -1,6 +1,6 @@
 // In which directions groups are suspended, and which links have members. Who keeps a note of that knows when the members of groups may
 // want something else than before.
-ghost use Rattle.std.specs.Prelude.{◌≡◌, ◌<◌, ◌≤◌, ◌^◌, true, false, Some, None, slice_set, length, map, slice_get, OnOk, IfOk};
+ghost use Rattle.std.specs.Prelude.{◌≡◌, ◌≢◌, ◌<◌, ◌≤◌, ◌^◌, true, false, Some, None, slice_set, length, map, slice_get, OnOk, IfOk};
 ghost use Rattle.std.specs.Option.{option_map};
 ghost use Rattle.ev_types.specs.declared.side.SideId.{SideId};
 ghost use Rattle.ev_types.specs.Sides.{number};
@@ -26,7 +26,8 @@ pub struct Halts {
 
 /// Whether a group is suspended in the directions that were noted.
 fn is_same(noted: &Halts, now: &Halts) -> bool
-    ensures { result ≡ true → noted.now ≡ now.now }
+    ensures same { result ≡ true → noted.now ≡ now.now }
+    ensures apart { result ≡ false → noted.now ≢ now.now }
 {
     noted.reads == now.reads && noted.writes == now.writes
 }
@@ -89,6 +90,8 @@ impl Relay {
         ensures noted { option_map (λ halts. slice_set seen.old.items group halts)
             (option_map halts_of (slice_get self.now.state.groups.groups group)) ≡ Some seen.new.items }
         ensures same { result ≡ true → seen.new.items ≡ seen.old.items }
+        ensures apart { result ≡ false → slice_get seen.old.items group
+            ≢ option_map halts_of (slice_get self.now.state.groups.groups group) }
     {
         let Some(halts) = self.halts(group) else {
             return false;
@@ -106,6 +109,7 @@ impl Relay {
         requires { length seen.old.items ≡ length self.now.state.groups.groups }
         ensures noted { seen.new.items ≡ map halts_of self.now.state.groups.groups }
         ensures same { result ≡ true → seen.new.items ≡ seen.old.items }
+        ensures apart { result ≡ false → seen.new.items ≢ seen.old.items }
         ensures shares { (e : SideId) (d : Dir) → leaves_some (share self.now.state e d)
             ≡ is_free seen.new.items d (group_of (number e) self.now.state.groups.members) }
     {

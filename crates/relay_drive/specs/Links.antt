@@ -1,24 +1,21 @@
 -- What of the state belongs to one link, and when a link has nothing to be done. A step of a turn changes what belongs to one link
 -- alone, so that what was found of another one is still so.
-use Rattle.std.specs.Prelude.{◌≡◌, ℕ, ◌-◌, Bool, ◌&&◌, ◌||◌, not, nat_le, if◌then◌else◌, min, length, false, is_some, List}
-use Rattle.std.specs.List.{All}
+use Rattle.std.specs.Prelude.{◌≡◌, ℕ, ◌-◌, Bool, ◌&&◌, ◌||◌, not, nat_le, if◌then◌else◌, min, length, List}
 use Rattle.token_bucket.specs.declared.limit.Dir.{Dir}
 use Rattle.token_bucket.specs.declared.limit.Dir.TheVariants as dir
 use Rattle.ev_types.specs.declared.side.SideId.{SideId}
 use Rattle.relay_model.specs.Plain.{side_at, flow_at}
 use Rattle.relay_model.specs.Rooms.{at_most, most_at_once, read_mark, may_read, may_write, is_connecting}
-use Rattle.relay_core.specs.declared.close.Closing.{Closing}
 pub use Rattle.relay_state.specs.Spent.{has_spent_count_from, has_spent_count}
 pub use Rattle.relay_core.specs.Pairs.{HasPairs}
 use Rattle.relay_core.specs.Halts.{is_free}
 use Rattle.relay_core.specs.Timeless.{IsStillSide}
 use Rattle.relay_core.specs.declared.halts.Halts.{Halts}
-use Rattle.relay_core.specs.Steps as steps
-use Rattle.relay_core.specs.Steps.{steps_of}
+pub use Rattle.relay_core.specs.Steps.{IsUncalled, IsSettled}
 use Rattle.relay_state.specs.State.{State, lane_at, gauge_at, with_plain}
 use Rattle.relay_state.specs.Rooms.{wants, allowance, input_length, waiting_for}
 use Rattle.relay_state.specs.Passing.{passage_at, round_from}
-use Rattle.relay_state.specs.Closing.{in_side, out_side, closing_entry}
+use Rattle.relay_state.specs.Closing.{in_side, out_side}
 
 -- What belongs to this link is as it was, the settings, and the time. What groups leave its sides to move is not kept: what is done at
 -- another link changes that.
@@ -41,14 +38,6 @@ IsStillFrom s e = round_from s e (passage_at s e) ≡ passage_at s e
 -- passing has nothing to do at this link
 abbrev pub IsStill : State → ℕ → Type 0
 IsStill s k = IsStillFrom s (in_side k) × IsStillFrom s (out_side k)
-
--- this step of closing is not called for
-abbrev pub IsUncalled : State → Closing → Type 0
-IsUncalled s step = is_some (closing_entry s (steps.close_step step)) ≡ false
-
--- closing has nothing to do at this link
-abbrev pub IsSettled : State → ℕ → Type 0
-IsSettled s k = All (IsUncalled s) (steps_of k)
 
 -- What a side would want, if groups were suspended as was noted.
 abbrev pub would_want : List Halts → State → SideId → Dir → Bool

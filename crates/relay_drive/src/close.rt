@@ -128,6 +128,9 @@ fn close_link<P: Port, S: Scribe>(
     ensures kept { run.new.relay.state.plain.opened ≡ run.old.relay.state.plain.opened }
     ensures cause { OnlyForMemory result }
 {
+    if run.relay.is_running(link) {
+        return Ok(false);
+    }
     let mut any = false;
     let steps = Closing::of(link);
     for step in steps.iter() {

@@ -1,17 +1,27 @@
-use Rattle.std.proofs.Common.{◌≡◌, ◌<◌, false, List, length, take, get_or, Ok, sym, ◌∙◌, ap, subst, arith}
+use Rattle.std.proofs.Common.{◌≡◌, ◌<◌, false, List, length, take, get_or, Ok, refl, sym, ◌∙◌, ap, subst, arith}
 use Rattle.std.proofs.lemmas.Result.{err_from_is_err_and}
 use Rattle.ev_types.specs.declared.side.Side.TheVariants.{In}
 use Rattle.relay_core.specs.declared.close.Closing.{Closing}
 use Rattle.relay_core.specs.declared.close.Closing.TheVariants.{BothDone, Faulty}
 use Rattle.relay_core.specs.Steps.{link_of_step, steps_of}
 use Rattle.relay_drive.specs.Steps.{Nothing}
-use Rattle.relay_drive.specs.Phases.{LooksAt}
+use Rattle.relay_drive.specs.Phases.{LooksAt, ClosesLink}
 use Rattle.relay_drive.proofs.ClosingLemmas.{closing_link}
 use Rattle.std.specs.List.{All}
 use Rattle.relay_drive.specs.Links.{IsUncalled}
 use Rattle.relay_drive.proofs.EachLemmas.{goes_next, goes_cut, all_taken}
+use Rattle.relay_drive.proofs.GoesLemmas.{Grew-none, goes_as, goes_nowhere}
+use Rattle.relay_drive.proofs.LinkParts.{settled-closes}
 use Rattle.relay_drive.proofs.close.close_link.Goals as goal
 use Rattle.relay_drive.proofs.close.close_link.Goals.{then-branch, else-branch}
+
+pub returns-then-is_running-clause-went : goal.returns-then-is_running-clause-went
+returns-then-is_running-clause-went g c =
+    let s = c.args.run.now.relay.state in
+    let k = c.args.link in
+    let settled = c.is_running.ensures.settled c.if-is_running.true in
+    goes_as (λ a p. subst (λ z. ClosesLink k s z s) (sym p.0) (settled-closes k s settled))
+    (goes_nowhere refl refl (Grew-none (g.S.Scribe.trace c.args.scribe.now)) (λ s t x k. k))
 
 pub close_step-requires : goal.close_step-requires
 close_step-requires g c =
