@@ -117,7 +117,7 @@ impl Relay {
             link,
             side: Side::In,
         };
-        self.is_running_side(near) && self.is_running_side(near.peer())
+        self.is_running_side(near) & self.is_running_side(near.peer())
     }
 
     /// Makes the change of a step of closing. Takes no memory; constant.

@@ -1,4 +1,4 @@
-use Rattle.std.proofs.Common.{◌≡◌, true, sym, ◌∙◌}
+use Rattle.std.proofs.Common.{◌≡◌, true}
 use Rattle.relay_core.specs.Steps.{is_running}
 use Rattle.relay_core.proofs.RunningLemmas.{running-settled}
 use Rattle.relay_core.proofs.relay.Relay.is_running.Goals as goal

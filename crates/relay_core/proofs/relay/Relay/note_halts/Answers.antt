@@ -43,7 +43,7 @@ loop-at-preserved c =
           (λ same. absurd (omega (arith, le, same)))
           ∙ inv.later k (omega (arith, le));
       apart = λ is. elim (either-false c.loop-at.same c.note_group-same.result is) [
-        | inl before ↦ (let found = inv.apart before in (found.0, omega (arith, found.1.0), found.1.1))
+        | inl before ↦ (let found = inv.apart before in (found.0, omega (arith, found.1), found.2))
         | inr now ↦ (
           c.loop-at.at,
           omega arith,
@@ -64,7 +64,7 @@ pub returns-clause-apart : goal.returns-clause-apart
 returns-clause-apart c is same =
     let inv = c.loop-at.invariant in
     let found = inv.apart is in
-    found.1.1 (ap (λ xs. slice_get xs found.0) (sym same) ∙ inv.noted found.0 found.1.0)
+    found.2 (ap (λ xs. slice_get xs found.0) (sym same) ∙ inv.noted found.0 found.1)
 
 pub returns-clause-shares : goal.returns-clause-shares
 returns-clause-shares c e d =
