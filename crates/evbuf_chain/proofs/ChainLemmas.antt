@@ -1,6 +1,7 @@
 -- A chain's bytes and marks: those of its chunks, and own bytes behind them.
 use Rattle.std.proofs.Common.{◌≡◌, ℕ, zero, suc, ◌+◌, ◌-◌, ◌<◌, ◌≤◌, List, [], ◌∷◌, ◌++◌, length, take, drop, min, refl, ap, sym, ◌∙◌, arith}
-use Rattle.std.proofs.Common.{append_assoc, append-nil, length-append, length-drop, length-take, None}
+use Rattle.std.proofs.Common.{append_assoc, append-nil, length-append, length-drop, length-take, None, inl, inr}
+use Rattle.std.proofs.lemmas.Bool.Decides.{leb_tells}
 use Rattle.std.proofs.lemmas.List.{replicate-append-replicate, drop_all}
 use Rattle.evbuf_chain.specs.Mark.{Marks, unmarked}
 use Rattle.evbuf_chain.specs.Covered.{covered, overlaid}
@@ -58,3 +59,11 @@ covered-all bytes from window within =
     ∙ overlaid-parts n (drop from bytes) window least
     ∙ ap (λ ws. take n (drop from bytes) ++ ws) (drop_all n window (omega arith))
     ∙ append-nil (take n (drop from bytes))
+
+-- no more than all is dropped
+pub drop-least : (n k size : ℕ) (bytes : List ℕ) → k ≡ min n size → size ≡ length bytes → drop k bytes ≡ drop n bytes
+drop-least n k size bytes k_is size_is = elim (leb_tells n (length bytes)) [
+  | inl within ↦ let e : k ≡ n = omega (arith, k_is, size_is, within.1) in ap (λ j. drop j bytes) e
+  | inr past ↦
+      drop_all k bytes (omega (arith, k_is, size_is, past.1)) ∙ sym (drop_all n bytes (omega (arith, past.1)))
+]

@@ -159,6 +159,7 @@ MovesWhole-whole old others of_all n rest moved bytes marks more then so bytes_a
     let fits : length marks ≤ n = omega (arith, marked, within) in
     record {
       within = omega (arith, so.within);
+      beyond = omega (arith, so.beyond, ap length bytes_are, length-append bytes more.bytes, within);
       taken = copied-whole others.bytes moved.bytes then.bytes old.bytes rest.bytes bytes more.bytes of_all n so.taken bytes_are within then_bytes;
       taken_marks =
           ap (λ ms. ms ++ uncut_marks (take k more.marks)) then_marks
@@ -186,20 +187,6 @@ MovesWhole-whole old others of_all n rest moved bytes marks more then so bytes_a
           ∙ ap (λ ms. moved.marks ++ ms) (sym marks_are)
           ∙ so.all_marks;
     }
-
--- what is left is seen by its bytes and marks
-pub MovesWhole-same : (old others : Gathered) (of_all n : ℕ) (rest moved same : Gathered)
-    → MovesWhole old others of_all n rest moved → same.bytes ≡ rest.bytes → same.marks ≡ rest.marks
-    → MovesWhole old others of_all n same moved
-MovesWhole-same old others of_all n rest moved same so bytes_are marks_are = record {
-  within = so.within;
-  taken = ap (λ bs. moved.bytes ++ take n bs) bytes_are ∙ so.taken;
-  taken_marks = ap (λ ms. moved.marks ++ uncut_marks (take n ms)) marks_are ∙ so.taken_marks;
-  bytes = ap (λ bs. drop n bs) bytes_are ∙ so.bytes;
-  marks = ap (λ ms. drop n ms) marks_are ∙ so.marks;
-  all = ap (λ bs. moved.bytes ++ bs) bytes_are ∙ so.all;
-  all_marks = ap (λ ms. moved.marks ++ ms) marks_are ∙ so.all_marks;
-}
 
 -- no reference ends among the first bytes of a chunk that is cut, whatever comes behind it
 pub ended-cut : (n : ℕ) (marks more all : Marks) → all ≡ marks ++ more → n ≤ length marks → ended_tickets (take n marks) ≡ []

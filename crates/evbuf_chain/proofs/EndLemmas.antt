@@ -1,13 +1,13 @@
 -- Chunks and the own bytes behind them, as one list.
 use Rattle.std.proofs.Common.{◌≡◌, ℕ, zero, suc, ◌+◌, ◌-◌, ◌<◌, ◌≤◌, List, [], ◌∷◌, ◌++◌, length, take, drop, min, refl, ap, sym, ◌∙◌, arith}
 use Rattle.std.proofs.Common.{append_assoc, append-nil, length-append, length-drop, length-take, inl, inr, None}
-use Rattle.std.proofs.lemmas.List.{take-append-le, drop-append-le, drop_all, drop-replicate, take-append-drop}
+use Rattle.std.proofs.lemmas.List.{take-append-le, drop-append-le, drop_all, take-replicate, drop-replicate, take-append-drop, replicate-append-replicate}
 use Rattle.std.proofs.lemmas.Bool.Decides.{leb_tells}
 use Rattle.evbuf_chain.specs.Mark.{Marks, Mark, unmarked, ended_tickets, uncut_marks, AreWhole}
 use Rattle.evbuf_chain.specs.Pieced.{Gathered, Owned, all_bytes, all_marks}
-use Rattle.evbuf_chain.specs.Leaving.{Drained, Takes, PullsUp}
+use Rattle.evbuf_chain.specs.Leaving.{Drained, MovesWhole, Takes, PullsUp}
 use Rattle.evbuf_chain.proofs.DrainLemmas.{take-past, drop-past}
-use Rattle.evbuf_chain.proofs.MarkLemmas.{ended_tickets-append, ended_tickets-unmarked-all, length-unmarked}
+use Rattle.evbuf_chain.proofs.MarkLemmas.{ended_tickets-append, ended_tickets-unmarked-all, uncut_marks-unmarked-all, uncut_marks-before, uncut_marks-whole, length-unmarked}
 
 -- the first n of two lists
 pub take-append : {A : Type 0} (n : ℕ) (xs ys : List A) → take n (xs ++ ys) ≡ take n xs ++ take (n - length xs) ys
@@ -124,3 +124,70 @@ PullsUp-taken old same rest new own left released now into taken n bytes_are mar
       run = omega (arith, new_run, size);
       spare = so.spare;
     }
+
+-- Whole chunks among the first n bytes went behind others, of which there were none, and the front of what is left was taken then.
+pub front-bytes : (old others rest moved : Gathered) (own : Owned) (n left : ℕ) → MovesWhole old others n left rest moved
+    → drop left (all_bytes rest own) ≡ drop n (all_bytes old own)
+front-bytes old others rest moved own n left so =
+    drop-append left rest.bytes own.items
+    ∙ ap (λ bs. bs ++ drop (left - length rest.bytes) own.items) so.bytes
+    ∙ ap (λ k. drop n old.bytes ++ drop k own.items) so.beyond
+    ∙ sym (drop-append n old.bytes own.items)
+
+pub front-marks : (old others rest moved : Gathered) (own : Owned) (n left : ℕ) → MovesWhole old others n left rest moved
+    → length old.marks ≡ length old.bytes → length rest.marks ≡ length rest.bytes
+    → drop left (all_marks rest own) ≡ drop n (all_marks old own)
+front-marks old others rest moved own n left so marked rest_marked =
+    let same : left - length rest.marks ≡ n - length old.marks = omega (arith, so.beyond, marked, rest_marked) in
+    drop-own left rest.marks (length own.items)
+    ∙ ap (λ ms. ms ++ unmarked (length own.items - (left - length rest.marks))) so.marks
+    ∙ ap (λ k. drop n old.marks ++ unmarked (length own.items - k)) same
+    ∙ sym (drop-own n old.marks (length own.items))
+
+pub front-taken : (old others rest moved : Gathered) (own : Owned) (n left : ℕ) → MovesWhole old others n left rest moved
+    → others.bytes ≡ [] → moved.bytes ++ take left (all_bytes rest own) ≡ take n (all_bytes old own)
+front-taken old others rest moved own n left so none =
+    ap (λ bs. moved.bytes ++ bs) (take-append left rest.bytes own.items)
+    ∙ sym (append_assoc moved.bytes (take left rest.bytes) (take (left - length rest.bytes) own.items))
+    ∙ ap (λ bs. bs ++ take (left - length rest.bytes) own.items) (so.taken ∙ ap (λ bs. bs ++ take n old.bytes) none)
+    ∙ ap (λ k. take n old.bytes ++ take k own.items) so.beyond
+    ∙ sym (take-append n old.bytes own.items)
+
+take-whole : {A : Type 0} (n : ℕ) (xs : List A) → length xs ≤ n → take n xs ≡ xs
+take-whole zero [] within = refl
+take-whole zero (x ∷ xs) within = absurd (omega (arith, within))
+take-whole (suc n) [] within = refl
+take-whole (suc n) (x ∷ xs) within = ap (λ zs. x ∷ zs) (take-whole n xs (omega (arith, within)))
+
+-- the marks of the first n, of which the own bytes have none
+uncut-own : (n : ℕ) (marks : Marks) (count : ℕ) → AreWhole marks → n ≤ length marks + count
+    → uncut_marks (take n (marks ++ unmarked count)) ≡ uncut_marks (take n marks) ++ unmarked (n - length marks)
+uncut-own n marks count whole within = elim (leb_tells (length marks) n) [
+  | inl past ↦
+      let k : ℕ = n - length marks in
+      ap uncut_marks (take-past n marks (unmarked count) past.1)
+      ∙ ap (λ ms. uncut_marks (marks ++ ms)) (take-replicate k count None (omega (arith, within, past.1)))
+      ∙ uncut_marks-before marks (unmarked k) whole
+      ∙ ap (λ ms. marks ++ ms) (uncut_marks-unmarked-all k)
+      ∙ ap (λ ms. ms ++ unmarked k) (sym (uncut_marks-whole marks whole) ∙ ap uncut_marks (sym (take-whole n marks past.1)))
+  | inr short ↦
+      let none : n - length marks ≡ 0 = omega (arith, short.1) in
+      ap uncut_marks (take-append-le n marks (unmarked count) (omega (arith, short.1)))
+      ∙ sym (append-nil (uncut_marks (take n marks)))
+      ∙ ap (λ k. uncut_marks (take n marks) ++ unmarked k) (sym none)
+]
+
+pub front-moved : (old others rest moved : Gathered) (own cut : Owned) (n left : ℕ) → MovesWhole old others n left rest moved
+    → others.marks ≡ [] → uncut_marks (take left rest.marks) ≡ unmarked (min left (length rest.bytes))
+    → length old.marks ≡ length old.bytes → AreWhole old.marks → n ≤ length (all_bytes old own) → length cut.items ≡ left
+    → moved.marks ++ unmarked (length cut.items) ≡ uncut_marks (take n (all_marks old own))
+front-moved old others rest moved own cut n left so none no_mark marked whole there size =
+    let split : length cut.items ≡ min left (length rest.bytes) + (left - length rest.bytes) = omega (arith, size) in
+    let same : left - length rest.bytes ≡ n - length old.marks = omega (arith, so.beyond, marked) in
+    ap (λ k. moved.marks ++ unmarked k) split
+    ∙ ap (λ ms. moved.marks ++ ms) (sym (replicate-append-replicate (min left (length rest.bytes)) (left - length rest.bytes) None))
+    ∙ sym (append_assoc moved.marks (unmarked (min left (length rest.bytes))) (unmarked (left - length rest.bytes)))
+    ∙ ap (λ ms. (moved.marks ++ ms) ++ unmarked (left - length rest.bytes)) (sym no_mark)
+    ∙ ap (λ ms. ms ++ unmarked (left - length rest.bytes)) (so.taken_marks ∙ ap (λ ms. ms ++ uncut_marks (take n old.marks)) none)
+    ∙ ap (λ k. uncut_marks (take n old.marks) ++ unmarked k) same
+    ∙ sym (uncut-own n old.marks (length own.items) whole (omega (arith, there, marked, length-append old.bytes own.items)))

@@ -11,7 +11,7 @@ use Rattle.evbuf_chain.specs.declared.piece.Held.TheVariants.{Own, Shared, Ended
 use Rattle.evbuf_chain.proofs.MarkLemmas.{length-reference_marks, drop-reference_marks, length-unmarked, AreWhole-unmarked, AreWhole-reference}
 use Rattle.evbuf_chain.proofs.MarkLemmas.{ended_tickets-part, uncut_marks-part, ended_tickets-unmarked-all, uncut_marks-unmarked-all, ended_tickets-reference}
 
-AreWhole-own : (n : ℕ) → AreWhole (unmarked n)
+pub AreWhole-own : (n : ℕ) → AreWhole (unmarked n)
 AreWhole-own n = let P : Marks → Type 0 = λ ms. AreWhole ms in subst P (append-nil (unmarked n)) (AreWhole-unmarked n [] tt)
 
 AreWhole-shared : (ticket n : ℕ) → AreWhole (reference_marks ticket n)

@@ -14,6 +14,7 @@ pub record Drained (old : Gathered) (released : List ℕ) (n : ℕ) (missing : �
 -- Of the first n bytes all but so many went behind others, with their marks.
 pub record MovesWhole (old others : Gathered) (n : ℕ) (left : ℕ) (new moved : Gathered) : Type 0 where
   pub within : left ≤ n
+  pub beyond : left - length new.bytes ≡ n - length old.bytes
   pub taken : moved.bytes ++ take left new.bytes ≡ others.bytes ++ take n old.bytes
   pub taken_marks : moved.marks ++ uncut_marks (take left new.marks) ≡ others.marks ++ uncut_marks (take n old.marks)
   pub bytes : drop left new.bytes ≡ drop n old.bytes

@@ -205,6 +205,7 @@ impl Chain {
         ensures spare { self.old.spare ≤ self.new.spare }
         ensures most { length self.new.bytes + self.new.spare ≤ self.old.spare + 4 * length self.old.bytes }
     {
+        let _marked = self.pieces.len();
         let left = moves::drain(&mut self.pieces, &mut self.ended, n);
         self.own.drop_front(left.min(self.own.len()));
     }

@@ -48,7 +48,8 @@ pub(crate) fn put_before(pieces: &mut Pieces, own: &mut Own, bytes: &[u8]) -> Re
     ensures err_own { OnErr result (own.new ≡ own.old) }
 {
     if pieces.len() == 0 {
-        return own.prepend(bytes);
+        own.prepend(bytes)?;
+        return Ok(());
     }
     let node = own_node(own.allocator(), bytes)?;
     pieces.push_front(node);
@@ -156,8 +157,10 @@ pub(crate) fn move_front(
     ensures err_spare { OnErr result (to_own.new.spare ≡ to_own.old.spare) }
     ensures ended { tickets_of ended.new ≡ tickets_of ended.old }
 {
+    let _marked = pieces.len();
     let mut whole = Pieces::new();
     let left = moves::move_whole(pieces, &mut whole, n);
+    let _rest = pieces.len();
     let mut cut = Own::new(own.allocator());
     if cut.reserve(left).is_err() {
         whole.append(pieces);
