@@ -23,11 +23,11 @@ marks-behind marks own now bytes is =
 pub bytes-behind : (chunks own now bytes : List ℕ) → now ≡ own ++ bytes → chunks ++ now ≡ (chunks ++ own) ++ bytes
 bytes-behind chunks own now bytes is = ap (λ bs. chunks ++ bs) is ∙ sym (append_assoc chunks own bytes)
 
-no-marks : (marks : Marks) → length marks ≡ 0 → marks ≡ []
+pub no-marks : (marks : Marks) → length marks ≡ 0 → marks ≡ []
 no-marks [] none = refl
 no-marks (mark ∷ marks) none = absurd (omega (arith, none))
 
-no-bytes : (bytes : List ℕ) → length bytes ≡ 0 → bytes ≡ []
+pub no-bytes : (bytes : List ℕ) → length bytes ≡ 0 → bytes ≡ []
 no-bytes [] none = refl
 no-bytes (b ∷ bytes) none = absurd (omega (arith, none))
 

@@ -18,7 +18,7 @@ drop-past n xs ys within =
     let e : n ≡ length xs + (n - length xs) = omega arith in
     ap (λ k. drop k (xs ++ ys)) e ∙ drop-append-add xs ys (n - length xs)
 
-none-ended : (n : ℕ) (marks : Marks) → marks ≡ [] → ended_tickets (take n marks) ≡ []
+pub none-ended : (n : ℕ) (marks : Marks) → marks ≡ [] → ended_tickets (take n marks) ≡ []
 none-ended n [] none = nothing n where
   nothing : (n : ℕ) → ended_tickets (take n []) ≡ []
   nothing zero = refl

@@ -5,5 +5,6 @@ pub mod EndLemmas
 pub mod MarkLemmas
 pub mod PieceFacts
 pub mod PieceLemmas
+pub mod PullupLemmas
 pub mod ShownLemmas
 pub mod TicketLemmas

@@ -328,7 +328,8 @@ impl Chain {
 
     // Whether so many more bytes leave a length that fits a usize.
     fn fits(&self, n: usize) -> Result<(), ChainFault>
-        ensures { fault_of result ≡ length_refusal (length self.now.bytes + n) }
+        ensures answer { fault_of result ≡ length_refusal (length self.now.bytes + n) }
+        ensures room { OnOk result (length self.now.bytes + n < 2 ^ 64) }
     {
         if n > usize::MAX - self.len() {
             return Err(ChainFault::Spent);

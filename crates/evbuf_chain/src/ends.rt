@@ -154,6 +154,7 @@ pub(crate) fn move_front(
     ensures to_marks { all_marks to.new to_own.new ≡ (if is_ok result then all_marks to.old to_own.old ++ uncut_marks (take n (all_marks pieces.old own.old)) else all_marks to.old to_own.old) }
     ensures spare { own.new.spare ≡ own.old.spare }
     ensures to_spare { to_own.new.spare ≤ to_own.old.spare }
+    ensures ok_spare { OnOk result (to_own.new.spare ≡ 0) }
     ensures err_spare { OnErr result (to_own.new.spare ≡ to_own.old.spare) }
     ensures ended { tickets_of ended.new ≡ tickets_of ended.old }
 {

@@ -123,7 +123,8 @@ impl Pieces {
     /// The first n bytes, which lie in the first chunk.
     pub(crate) fn first(&self, n: usize) -> &[u8]
         requires { n ≤ self.now.run }
-        ensures { result.now ≡ take n self.now.bytes }
+        ensures bytes { result.now ≡ take n self.now.bytes }
+        ensures len { length result.now ≡ n }
     {
         self.queue.first().split_at(n).0
     }

@@ -10,6 +10,8 @@ invariant_of-self-2 c =
       length-append c.put_before.new.pieces.bytes c.put_before.new.own.items,
       length-append c.args.bytes.now (all_bytes c.self.inside.pieces c.self.inside.own),
       c.in_ok-put_before.ensures.spare,
+      length-append c.self.inside.pieces.bytes c.self.inside.own.items,
+      c.self.invariant,
       c.if-bytes-len.false,
       c.len.ensures.len,
       c.spare.ensures,
