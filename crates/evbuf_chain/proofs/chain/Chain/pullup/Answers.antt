@@ -12,13 +12,17 @@ pub returns-then-n-eq0 : goal.returns-then-n-eq0
 returns-then-n-eq0 c =
     let inside = c.self.inside in
     let n = c.args.n in
-    let there : n ≤ length c.args.self.now.bytes = omega (arith, c.if-n-len.false, c.len.ensures.len) in
+    let there : n ≤ length c.args.self.now.bytes = omega (arith, c.if-n-len.false, c.len.ensures.len, ap (λ v. length v.bytes) c.self.view_is) in
     let size : length c.args.self.now.bytes ≡ length inside.pieces.bytes + length inside.own.items =
     ap (λ v. length v.bytes) (sym c.self.view_is) ∙ length-append inside.pieces.bytes inside.own.items in
-    let marks_size : length c.args.self.now.marks ≡ length inside.pieces.marks + length (unmarked (length inside.own.items)) =
-    ap (λ v. length v.marks) (sym c.self.view_is) ∙ length-append inside.pieces.marks (unmarked (length inside.own.items)) in
     let marked : length inside.pieces.marks ≡ length inside.pieces.bytes =
-    omega (arith, size, marks_size, length-unmarked (length inside.own.items), c.len.ensures.marked) in
+    omega (
+      arith,
+      c.len.ensures.marked,
+      length-append inside.pieces.bytes inside.own.items,
+      length-append inside.pieces.marks (unmarked (length inside.own.items)),
+      length-unmarked (length inside.own.items),
+    ) in
     let already : (n ≡ 0) ⊎ (length inside.pieces.bytes ≡ 0) = elim c.then-n-eq0.branch [
       | then-n-eq0-via-then-n-eq0 w ↦ inl (omega (arith, w.if-n-eq0.true))
       | then-n-eq0-via-else-n-eq0+then-len-eq0 w ↦ inr (omega (arith, w.if-len-eq0.true, w.len-else-n-eq0.ensures.len))
@@ -34,7 +38,7 @@ pub returns : goal.returns
 returns c =
     let inside = c.self.inside in
     let n = c.args.n in
-    let there : n ≤ length c.args.self.now.bytes = omega (arith, c.if-n-len.false, c.len.ensures.len) in
+    let there : n ≤ length c.args.self.now.bytes = omega (arith, c.if-n-len.false, c.len.ensures.len, ap (λ v. length v.bytes) c.self.view_is) in
     let P : Buffered → Type 0 = λ v.
     IsPulledUp v n (buffered (record { own = c.pull.new.own; pieces = c.pull.new.pieces; ended = c.pull.new.ended })) in
     let so = subst P c.self.view_is
