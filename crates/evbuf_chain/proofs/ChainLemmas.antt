@@ -1,12 +1,11 @@
 -- A chain's bytes and marks: those of its chunks, and own bytes behind them.
-use Rattle.std.proofs.Common.{◌≡◌, ℕ, zero, suc, ◌+◌, ◌-◌, ◌<◌, ◌≤◌, List, [], ◌∷◌, ◌++◌, length, take, drop, min, refl, ap, sym, ◌∙◌, arith}
-use Rattle.std.proofs.Common.{append_assoc, append-nil, length-append, length-drop, length-take, None, inl, inr}
+use Rattle.std.proofs.Common.{◌≡◌, ℕ, ◌-◌, ◌≤◌, List, [], ◌∷◌, ◌++◌, length, take, drop, min, refl, ap, sym, ◌∙◌, arith}
+use Rattle.std.proofs.Common.{append_assoc, append-nil, length-append, length-drop, None, inl, inr}
 use Rattle.std.proofs.lemmas.Bool.Decides.{leb_tells}
 use Rattle.std.proofs.lemmas.List.{replicate-append-replicate, drop_all}
 use Rattle.evbuf_chain.specs.Mark.{Marks, unmarked}
 use Rattle.evbuf_chain.specs.Covered.{covered, overlaid}
 use Rattle.evbuf_chain.proofs.CoveredLemmas.{overlaid-parts}
-use Rattle.evbuf_chain.proofs.MarkLemmas.{length-unmarked}
 
 -- so many own bytes come in behind
 pub unmarked-append : (first more : List ℕ) → unmarked (length (first ++ more)) ≡ unmarked (length first) ++ unmarked (length more)

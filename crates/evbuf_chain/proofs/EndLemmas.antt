@@ -1,9 +1,9 @@
 -- Chunks and the own bytes behind them, as one list.
-use Rattle.std.proofs.Common.{◌≡◌, ℕ, zero, suc, ◌+◌, ◌-◌, ◌<◌, ◌≤◌, List, [], ◌∷◌, ◌++◌, length, take, drop, min, refl, ap, sym, ◌∙◌, arith}
+use Rattle.std.proofs.Common.{◌≡◌, ℕ, zero, suc, ◌+◌, ◌-◌, ◌≤◌, List, [], ◌∷◌, ◌++◌, length, take, drop, min, refl, ap, sym, ◌∙◌, arith}
 use Rattle.std.proofs.Common.{append_assoc, append-nil, length-append, length-drop, length-take, inl, inr, None}
 use Rattle.std.proofs.lemmas.List.{take-append-le, drop-append-le, drop_all, take-replicate, drop-replicate, take-append-drop, replicate-append-replicate}
 use Rattle.std.proofs.lemmas.Bool.Decides.{leb_tells}
-use Rattle.evbuf_chain.specs.Mark.{Marks, Mark, unmarked, ended_tickets, uncut_marks, AreWhole}
+use Rattle.evbuf_chain.specs.Mark.{Marks, unmarked, ended_tickets, uncut_marks, AreWhole}
 use Rattle.evbuf_chain.specs.Pieced.{Gathered, Owned, all_bytes, all_marks}
 use Rattle.evbuf_chain.specs.Leaving.{Drained, MovesWhole, Takes, PullsUp}
 use Rattle.evbuf_chain.proofs.DrainLemmas.{take-past, drop-past}

@@ -1,5 +1,5 @@
 -- What holds of each chunk.
-use Rattle.std.proofs.Common.{◌≡◌, ℕ, zero, ◌+◌, ◌-◌, ◌<◌, ◌≤◌, List, [], ◌∷◌, ◌++◌, length, take, drop, refl, ap, sym, ◌∙◌, arith, length-drop, append-nil, subst, None}
+use Rattle.std.proofs.Common.{◌≡◌, ℕ, ◌+◌, ◌-◌, ◌<◌, ◌≤◌, [], ◌∷◌, length, take, drop, refl, ap, sym, ◌∙◌, arith, length-drop, append-nil, subst, None}
 use Rattle.std.specs.Rc.{rc_slice_items}
 use Rattle.std.proofs.lemmas.List.{take-replicate, drop-replicate}
 use Rattle.evbuf_chain.specs.Mark.{Marks, AreWhole, reference_marks, unmarked, ended_tickets, uncut_marks}

@@ -1,5 +1,5 @@
 -- Chunks one after another.
-use Rattle.std.proofs.Common.{◌≡◌, ℕ, zero, suc, ◌+◌, List, [], ◌∷◌, ◌++◌, length, refl, ap, sym, ◌∙◌, append_assoc, Some, None, arith, length-append, ◌-◌, subst}
+use Rattle.std.proofs.Common.{◌≡◌, ℕ, ◌+◌, List, [], ◌∷◌, ◌++◌, length, refl, ap, sym, ◌∙◌, append_assoc, Some, None, arith, length-append, ◌-◌, subst}
 use Rattle.std.proofs.lemmas.Grind.{flat_map-append}
 use Rattle.std.proofs.lemmas.List.{append-nil}
 use mathlib.Core.List.{reverse, reverse-cons}
@@ -24,11 +24,10 @@ tickets_of-push pieces piece =
 pub AreWhole-append : (xs ys : Marks) → AreWhole xs → AreWhole ys → AreWhole (xs ++ ys)
 AreWhole-append [] ys whole more = more
 AreWhole-append (None ∷ xs) ys whole more = AreWhole-append xs ys whole more
-AreWhole-append (Some mark ∷ xs) ys whole more =
-    (
-      (whole.0.0 ++ ys, ap (λ ms. ms ++ ys) whole.0.1 ∙ append_assoc (reference_marks mark.ticket mark.behind) whole.0.0 ys),
-      AreWhole-append xs ys whole.1 more,
-    )
+AreWhole-append (Some mark ∷ xs) ys whole more = (
+  (whole.0.0 ++ ys, ap (λ ms. ms ++ ys) whole.0.1 ∙ append_assoc (reference_marks mark.ticket mark.behind) whole.0.0 ys),
+  AreWhole-append xs ys whole.1 more,
+)
 
 pub AreWhole-behind : (xs ys : Marks) → AreWhole (xs ++ ys) → AreWhole ys
 AreWhole-behind [] ys whole = whole

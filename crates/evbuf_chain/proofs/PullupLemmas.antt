@@ -1,6 +1,5 @@
 -- A pullup that leaves all as it is, since the first bytes are own bytes already, and one that made a chunk of them.
 use Rattle.std.proofs.Common.{◌≡◌, ℕ, ◌+◌, ◌-◌, ◌≤◌, ◌⊎◌, List, [], ◌++◌, length, take, drop, ap, sym, ◌∙◌, arith, inl, inr, append-nil, None, refl}
-use Rattle.std.proofs.Common.{length-append}
 use Rattle.std.proofs.lemmas.List.{drop-replicate, replicate-append-replicate}
 use Rattle.evbuf_chain.specs.Mark.{Marks, unmarked, ended_tickets}
 use Rattle.evbuf_chain.specs.Pieced.{tickets_of}

@@ -1,5 +1,5 @@
 -- How a chain keeps what it shows.
-use Rattle.std.specs.Prelude.{ℕ, ◌+◌, ◌^◌, ◌<◌, ◌++◌, length}
+use Rattle.std.specs.Prelude.{◌+◌, ◌^◌, ◌<◌, ◌++◌, length}
 use Rattle.evbuf_chain.specs.Mark.{unmarked}
 use Rattle.evbuf_chain.specs.Pieced.{tickets_of}
 use Rattle.evbuf_chain.specs.Buffered.{Buffered}

@@ -1,6 +1,5 @@
 -- How the chunks of a chain keep what they show.
-use Rattle.std.specs.Prelude.{◌≡◌, ℕ, ◌+◌, ◌-◌, ◌≤◌, ◌<◌, List, [], ◌∷◌, ◌++◌, length, drop, reverse, Option, Some, None, Box}
-use Rattle.std.specs.Box.{box_value}
+use Rattle.std.specs.Prelude.{◌-◌, [], ◌∷◌, length, drop}
 use Rattle.std.specs.Rc.{rc_slice_items}
 use Rattle.evbuf_chain.specs.Mark.{unmarked, reference_marks}
 use Rattle.evbuf_chain.specs.Pieced.{Pieced}

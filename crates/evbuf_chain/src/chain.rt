@@ -19,13 +19,12 @@ ghost use Rattle.std.specs.Rc.{rc_slice_items};
 
 use crate::ends::{move_front, pull, put_before, put_behind, seal};
 use crate::fault::ChainFault;
-use crate::moves;
 use crate::own::Own;
 use crate::piece::Piece;
 use crate::pieces::Pieces;
 use crate::queue::Queue;
-use crate::reading;
 use crate::stack::make_node;
+use crate::{moves, reading};
 use smallvec::SmallVec;
 use std::alloc::Global;
 use std::marker::Model;
@@ -167,7 +166,8 @@ impl Chain {
         self.fits(bytes.len())?;
         let alloc = self.own.allocator();
         if bytes.len() == 0 {
-            self.ended.push_back(make_node(alloc, Piece::ended(ticket))?);
+            self.ended
+                .push_back(make_node(alloc, Piece::ended(ticket))?);
             return Ok(());
         }
         let node = make_node(alloc, Piece::shared(bytes, ticket))?;
@@ -229,8 +229,7 @@ impl Chain {
         ensures bytes { IfOk result (λ slices. joined slices.items ≡ take n self.now.bytes) }
     {
         let mut slices = SmallVec::new(self.own.allocator());
-        self.pieces
-            .extents(self.own.allocator(), n, &mut slices)?;
+        self.pieces.extents(self.own.allocator(), n, &mut slices)?;
         let left = n.saturating_sub(self.pieces.len());
         if left > 0 {
             slices.push(reading::first(self.own.as_slice(), left))?;

@@ -57,12 +57,7 @@ pub(crate) fn put_before(pieces: &mut Pieces, own: &mut Own, bytes: &[u8]) -> Re
 }
 
 /// Moves all chunks and own bytes of another chain behind those of this one. Nothing is spare then.
-pub(crate) fn put_behind(
-    pieces: &mut Pieces,
-    own: &mut Own,
-    from: &mut Pieces,
-    from_own: &mut Own,
-)
+pub(crate) fn put_behind(pieces: &mut Pieces, own: &mut Own, from: &mut Pieces, from_own: &mut Own)
     requires { length (all_bytes pieces.old own.old) + length (all_bytes from.old from_own.old) < 2 ^ 64 }
     ensures bytes { all_bytes pieces.new own.new ≡ all_bytes pieces.old own.old ++ all_bytes from.old from_own.old }
     ensures marks { all_marks pieces.new own.new ≡ all_marks pieces.old own.old ++ all_marks from.old from_own.old }
@@ -79,13 +74,7 @@ pub(crate) fn put_behind(
 }
 
 /// Takes off the first n bytes and copies them behind others, in room that was made before.
-pub(crate) fn take(
-    pieces: &mut Pieces,
-    own: &mut Own,
-    ended: &mut Queue,
-    n: usize,
-    into: &mut Own,
-)
+pub(crate) fn take(pieces: &mut Pieces, own: &mut Own, ended: &mut Queue, n: usize, into: &mut Own)
     requires there { n ≤ length (all_bytes pieces.old own.old) }
     requires room { n ≤ into.old.spare }
     ensures { Takes pieces.old own.old (tickets_of ended.old) into.old n pieces.new own.new (tickets_of ended.new) into.new }

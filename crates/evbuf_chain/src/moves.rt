@@ -55,12 +55,7 @@ pub(crate) fn drain(pieces: &mut Pieces, ended: &mut Queue, n: usize) -> usize
 }
 
 /// Takes off the first n bytes and copies them behind others, in room that was made before. Answers how many of the n there were not.
-pub(crate) fn gather(
-    pieces: &mut Pieces,
-    ended: &mut Queue,
-    n: usize,
-    into: &mut Own,
-) -> usize
+pub(crate) fn gather(pieces: &mut Pieces, ended: &mut Queue, n: usize, into: &mut Own) -> usize
     requires { n ≤ into.old.spare }
     ensures drained { Drained pieces.old (tickets_of ended.old) n result pieces.new (tickets_of ended.new) }
     ensures into { into.new.items ≡ into.old.items ++ take n pieces.old.bytes }

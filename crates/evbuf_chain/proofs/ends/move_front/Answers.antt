@@ -1,4 +1,4 @@
-use Rattle.std.proofs.Common.{◌≡◌, ◌≤◌, ◌++◌, length, take, ap, sym, ◌∙◌, arith, append-nil, length-append, length-take}
+use Rattle.std.proofs.Common.{◌≡◌, ◌≤◌, ◌++◌, length, take, ap, ◌∙◌, arith, append-nil, length-append, length-take}
 use Rattle.evbuf_chain.specs.Pieced.{tickets_of, all_bytes, all_marks}
 use Rattle.evbuf_chain.proofs.EndLemmas.{front-bytes, front-marks, front-taken, front-moved, ended-own}
 use Rattle.evbuf_chain.proofs.ends.move_front.Goals as goal

@@ -1,6 +1,6 @@
-use Rattle.std.proofs.Common.{◌≡◌, ◌++◌, length, take, drop, refl, ap, arith, length-append, length-drop, length-take}
+use Rattle.std.proofs.Common.{length, take, refl, ap, arith, length-append, length-drop, length-take}
 use Rattle.evbuf_chain.specs.Pieced.{tickets_of, all_bytes}
-use Rattle.evbuf_chain.proofs.EndLemmas.{PullsUp-own, PullsUp-taken}
+use Rattle.evbuf_chain.proofs.EndLemmas.{PullsUp-own}
 use Rattle.evbuf_chain.proofs.ends.pull.Goals as goal
 
 pub returns-then-leads_own-clause-pulled : goal.returns-then-leads_own-clause-pulled

@@ -1,4 +1,4 @@
-use Rattle.std.proofs.Common.{◌≡◌, ◌≤◌, ◌+◌, ◌-◌, ◌++◌, length, take, drop, ap, sym, ◌∙◌, arith, append_assoc, length-append, length-take}
+use Rattle.std.proofs.Common.{◌≤◌, ◌++◌, length, take, ap, sym, ◌∙◌, arith, append_assoc, length-append, length-take}
 use Rattle.evbuf_chain.specs.Pieced.{tickets_of}
 use Rattle.evbuf_chain.proofs.EndLemmas.{drained-bytes, drained-marks, drained-ended, take-append}
 use Rattle.evbuf_chain.proofs.ends.take.Goals as goal

@@ -1,6 +1,5 @@
-use Rattle.std.proofs.Common.{◌≡◌, ◌<◌, ◌≤◌, ◌+◌, ◌-◌, ◌++◌, ℕ, false, true, length, drop, take, ap, sym, ◌∙◌, refl, subst, arith, length-append, length-drop}
+use Rattle.std.proofs.Common.{◌≡◌, ◌<◌, ◌≤◌, ◌-◌, ◌++◌, ℕ, false, true, length, drop, ap, sym, ◌∙◌, refl, subst, arith, length-append, length-drop}
 use Rattle.evbuf_chain.specs.Pieced.{tickets_of}
-use Rattle.evbuf_chain.specs.Mark.{ended_tickets, unmarked, uncut_marks, AreWhole}
 use Rattle.evbuf_chain.specs.declared.stack.Node.{Node}
 use Rattle.evbuf_chain.proofs.DrainLemmas.{Drains, Drains-whole, Drains-cut}
 use Rattle.evbuf_chain.proofs.moves.drain.Goals as goal

@@ -1,8 +1,7 @@
-use Rattle.std.proofs.Common.{◌≡◌, ◌<◌, ◌≤◌, ◌+◌, ◌-◌, ◌++◌, ℕ, false, true, length, drop, take, ap, sym, ◌∙◌, refl, subst, arith, length-append, length-drop}
+use Rattle.std.proofs.Common.{◌≡◌, ◌<◌, ◌≤◌, ◌-◌, ◌++◌, ℕ, false, true, length, drop, take, ap, sym, ◌∙◌, refl, subst, arith, length-append, length-drop}
 use Rattle.evbuf_chain.specs.Pieced.{tickets_of}
-use Rattle.evbuf_chain.specs.Mark.{ended_tickets, unmarked, uncut_marks, AreWhole}
 use Rattle.evbuf_chain.specs.declared.stack.Node.{Node}
-use Rattle.evbuf_chain.proofs.DrainLemmas.{Drains, Drains-whole, Drains-cut, copied-whole, copied-cut}
+use Rattle.evbuf_chain.proofs.DrainLemmas.{Drains, Drains-whole, Drains-cut, copied-whole}
 use Rattle.evbuf_chain.proofs.moves.gather.Goals as goal
 
 pub push_front-requires : goal.push_front-requires
@@ -48,8 +47,8 @@ loop-left-preserved c =
     (tickets_of c.release.new.ended) in
     record {
       drains = subst P (sym k) (Drains-whole c.args.pieces.now (tickets_of c.args.ended.now) c.args.n c.loop-left.left c.loop-left.pieces
-    (tickets_of c.loop-left.ended) p.bytes p.marks c.pop_front.new.self (tickets_of c.release.new.ended) c.loop-left.invariant.drains
-    c.in-Some.ensures.bytes c.in-Some.ensures.marks marked within c.release.ensures);
+          (tickets_of c.loop-left.ended) p.bytes p.marks c.pop_front.new.self (tickets_of c.release.new.ended) c.loop-left.invariant.drains
+          c.in-Some.ensures.bytes c.in-Some.ensures.marks marked within c.release.ensures);
       into =
           ap (λ j. c.push-in-loop-left.new.self.items ++ take (c.loop-left.left - j) c.pop_front.new.self.bytes) k
           ∙ copied-whole c.args.into.now.items c.loop-left.into.items c.push-in-loop-left.new.self.items c.args.pieces.now.bytes

@@ -1,6 +1,5 @@
-use Rattle.std.proofs.Common.{◌≡◌, ◌<◌, ◌≤◌, ◌+◌, ◌-◌, ◌++◌, ℕ, false, true, length, drop, take, ap, sym, ◌∙◌, refl, subst, arith, length-append, length-drop}
-use Rattle.evbuf_chain.specs.Pieced.{tickets_of}
-use Rattle.evbuf_chain.specs.Mark.{ended_tickets, unmarked, uncut_marks, AreWhole}
+use Rattle.std.proofs.Common.{◌≡◌, ◌<◌, ◌≤◌, ◌-◌, ◌++◌, ℕ, false, true, length, ap, sym, ◌∙◌, refl, subst, arith, length-append}
+use Rattle.evbuf_chain.specs.Mark.{unmarked, AreWhole}
 use Rattle.evbuf_chain.specs.declared.stack.Node.{Node}
 use Rattle.std.proofs.Common.{min}
 use Rattle.evbuf_chain.specs.Leaving.{MovesWhole}

@@ -1,4 +1,4 @@
-use Rattle.std.proofs.Common.{◌≡◌, ap, sym, ◌∙◌}
+use Rattle.std.proofs.Common.{ap, sym, ◌∙◌}
 use Rattle.evbuf_chain.proofs.PieceLemmas.{bottom_bytes, bottom_bytes-first}
 use Rattle.evbuf_chain.proofs.reading.bottom.Goals as goal
 

@@ -1,4 +1,4 @@
-use Rattle.std.proofs.Common.{◌≡◌, ◌++◌, ◌-◌, ap, sym, ◌∙◌, reverse}
+use Rattle.std.proofs.Common.{◌-◌, ap, ◌∙◌, reverse}
 use Rattle.evbuf_chain.specs.Pieced.{bytes_of}
 use Rattle.evbuf_chain.specs.Covered.{covered}
 use Rattle.evbuf_chain.proofs.PieceLemmas.{bytes_of-reverse}

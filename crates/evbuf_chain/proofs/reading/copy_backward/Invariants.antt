@@ -1,4 +1,4 @@
-use Rattle.std.proofs.Common.{length, reverse, ◌-◌}
+use Rattle.std.proofs.Common.{length, reverse}
 use Rattle.evbuf_chain.specs.Pieced.{bytes_of}
 use Rattle.evbuf_chain.proofs.CoveredLemmas.{Backward}
 use Rattle.evbuf_chain.proofs.reading.copy_backward.Given as goal

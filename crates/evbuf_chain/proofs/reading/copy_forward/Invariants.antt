@@ -1,4 +1,4 @@
-use Rattle.std.proofs.Common.{◌≡◌, ◌+◌, ◌++◌, List, ℕ, length}
+use Rattle.std.proofs.Common.{length}
 use Rattle.evbuf_chain.specs.Pieced.{bytes_of}
 use Rattle.evbuf_chain.proofs.CoveredLemmas.{Forward}
 use Rattle.evbuf_chain.proofs.reading.copy_forward.Given as goal

@@ -1,4 +1,4 @@
-use Rattle.std.proofs.Common.{◌≡◌, ◌++◌, take, drop, ap, sym, ◌∙◌}
+use Rattle.std.proofs.Common.{◌++◌, take, ap, sym, ◌∙◌}
 use Rattle.evbuf_chain.proofs.CoveredLemmas.{overlaid-parts}
 use Rattle.evbuf_chain.proofs.reading.overlay.Goals as goal
 

@@ -1,4 +1,4 @@
-use Rattle.std.proofs.Common.{◌≡◌, ◌≤◌, ◌+◌, ◌-◌, ◌++◌, take, length, reverse, ap, sym, ◌∙◌, arith, length-append}
+use Rattle.std.proofs.Common.{◌≡◌, ◌-◌, ◌++◌, take, length, reverse, ap, ◌∙◌, arith, length-append}
 use Rattle.evbuf_chain.specs.Pieced.{bytes_of}
 use Rattle.evbuf_chain.specs.Buffered.{joined}
 use Rattle.evbuf_chain.proofs.PieceLemmas.{bytes_of-reverse}

@@ -1,4 +1,4 @@
-use Rattle.std.proofs.Common.{◌≡◌, ◌++◌, take, length, refl, ap, sym, ◌∙◌}
+use Rattle.std.proofs.Common.{◌++◌, take, length, refl, ap, sym, ◌∙◌}
 use Rattle.evbuf_chain.specs.Pieced.{bytes_of}
 use Rattle.evbuf_chain.specs.Buffered.{joined}
 use Rattle.evbuf_chain.proofs.ShownLemmas.{shown-next}

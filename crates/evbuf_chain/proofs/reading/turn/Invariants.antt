@@ -1,4 +1,4 @@
-use Rattle.std.proofs.Common.{◌≡◌, ◌++◌, length, reverse, [], ◌∷◌}
+use Rattle.std.proofs.Common.{◌≡◌, ◌++◌, length, reverse}
 use Rattle.evbuf_chain.specs.Buffered.{joined}
 use Rattle.evbuf_chain.proofs.reading.turn.Given as goal
 

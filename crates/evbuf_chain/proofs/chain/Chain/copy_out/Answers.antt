@@ -1,4 +1,4 @@
-use Rattle.std.proofs.Common.{◌≡◌, ◌+◌, ◌++◌, length, take, drop, ap, sym, ◌∙◌, arith, length-append}
+use Rattle.std.proofs.Common.{◌≡◌, ◌+◌, ◌++◌, length, take, drop, ap, ◌∙◌, arith}
 use Rattle.evbuf_chain.specs.Covered.{covered}
 use Rattle.evbuf_chain.proofs.CoveredLemmas.{covered-then}
 use Rattle.evbuf_chain.proofs.ChainLemmas.{covered-all}

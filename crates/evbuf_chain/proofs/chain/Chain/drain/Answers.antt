@@ -1,4 +1,4 @@
-use Rattle.std.proofs.Common.{◌≡◌, ◌++◌, drop, take, ap, sym, ◌∙◌}
+use Rattle.std.proofs.Common.{◌++◌, drop, take, ap, ◌∙◌}
 use Rattle.evbuf_chain.specs.Pieced.{tickets_of}
 use Rattle.evbuf_chain.specs.Mark.{ended_tickets}
 use Rattle.evbuf_chain.proofs.EndLemmas.{drained-bytes, drained-marks, drained-ended}

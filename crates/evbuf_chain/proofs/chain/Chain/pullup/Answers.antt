@@ -1,4 +1,4 @@
-use Rattle.std.proofs.Common.{◌≡◌, ◌≤◌, ◌+◌, ◌⊎◌, ◌++◌, length, take, refl, ap, sym, ◌∙◌, subst, inl, inr, arith, length-take, length-append}
+use Rattle.std.proofs.Common.{◌≡◌, ◌≤◌, ◌+◌, ◌⊎◌, length, take, refl, ap, sym, ◌∙◌, subst, inl, inr, arith, length-take, length-append}
 use Rattle.std.proofs.lemmas.List.{take-append-le}
 use Rattle.evbuf_chain.specs.Mark.{unmarked}
 use Rattle.evbuf_chain.specs.ChainView.{buffered}

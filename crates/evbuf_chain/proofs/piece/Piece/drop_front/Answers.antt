@@ -1,4 +1,4 @@
-use Rattle.std.proofs.Common.{◌≡◌, ◌<◌, length, ap, sym, ◌∙◌, drop, arith}
+use Rattle.std.proofs.Common.{◌≡◌, length, ap, sym, ◌∙◌, drop, arith}
 use Rattle.evbuf_chain.specs.PieceViews.{pieced}
 use Rattle.evbuf_chain.proofs.PieceFacts.{own-dropped, shared-dropped}
 use Rattle.evbuf_chain.proofs.piece.Piece.drop_front.Goals as goal

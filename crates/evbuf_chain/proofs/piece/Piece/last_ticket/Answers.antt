@@ -1,6 +1,5 @@
-use Rattle.std.proofs.Common.{◌≡◌, length, subst, [], ◌∷◌, ap, sym, ◌∙◌}
+use Rattle.std.proofs.Common.{ap, sym, ◌∙◌}
 use Rattle.evbuf_chain.specs.Mark.{ended_tickets}
-use Rattle.evbuf_chain.specs.Pieced.{Pieced}
 use Rattle.evbuf_chain.proofs.PieceFacts.{own-last, shared-last}
 use Rattle.evbuf_chain.proofs.piece.Piece.last_ticket.Goals as goal
 

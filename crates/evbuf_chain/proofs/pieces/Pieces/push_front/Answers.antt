@@ -1,4 +1,4 @@
-use Rattle.std.proofs.Common.{◌++◌, ◌∷◌, [], ap, sym, ◌∙◌}
+use Rattle.std.proofs.Common.{◌∷◌, ap, sym, ◌∙◌}
 use Rattle.evbuf_chain.proofs.PieceLemmas.{IsPieces-push_front}
 use Rattle.evbuf_chain.proofs.pieces.Pieces.push_front.Goals as goal
 
