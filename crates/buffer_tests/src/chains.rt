@@ -100,7 +100,7 @@ fn play_step(first: &mut Chain, second: &mut Chain, step: Step) -> Result<Answer
         Second(act) => play(second, act),
         SplitFront(n) => Ok(Count(first.split_front(n, second)? as u64)),
         AppendAll => {
-            first.append_all(second)?;
+            first.append_all(second);
             Ok(Done)
         }
     }
@@ -163,6 +163,36 @@ fn slices_of_the_first_bytes_joined_are_these_bytes(rt: HostRuntime) {
     assert_eq!(rt; first_wrong_of(rt.alloc(), SLICES), None);
 }
 
+const CHUNKS: &[Row] = &[
+    (PushCopy(b"ab"), Done),
+    (PushRef(b"cd", 1), Done),
+    (PushRef(b"e", 2), Done),
+    (PushCopy(b"fg"), Done),
+    (Extents(7, b"abcdefg"), Shown),
+    (Extents(4, b"abcd"), Shown),
+    (CopyOut(0, b"abcd"), Shown),
+    (CopyOut(1, b"bcde"), Shown),
+    (CopyOut(4, b"efg"), Shown),
+    (Drain(1), Done),
+    (Prepend(b"A"), Done),
+    (Extents(6, b"Abcdef"), Shown),
+    (CopyOut(2, b"cdef"), Shown),
+    (Pullup(4, b"Abcd"), Shown),
+    (Ticket, Count(1)),
+    (Ticket, No),
+    (Pullup(3, b"Abc"), Shown),
+    (CopyOut(3, b"defg"), Shown),
+    (Drain(4), Done),
+    (Pullup(3, b"efg"), Shown),
+    (Ticket, Count(2)),
+    (Extents(9, b"efg"), Shown),
+];
+
+#[test]
+fn bytes_are_read_across_chunks(rt: HostRuntime) {
+    assert_eq!(rt; first_wrong_of(rt.alloc(), CHUNKS), None);
+}
+
 const TICKETS: &[Row] = &[
     (PushRef(b"abcde", 7), Done),
     (PushRef(b"", 8), Done),
@@ -204,6 +234,66 @@ fn a_cut_reference_stays_with_the_rest(rt: HostRuntime) {
     drop(second);
     drop(first);
     assert_eq!(rt; wrong, None);
+}
+
+const MOVED: &[(Step, Answer)] = &[
+    (First(PushCopy(b"a")), Done),
+    (First(PushRef(b"bc", 1)), Done),
+    (First(PushCopy(b"de")), Done),
+    (Second(PushRef(b"fg", 2)), Done),
+    (Second(PushCopy(b"h")), Done),
+    (AppendAll, Done),
+    (Second(Len), Count(0)),
+    (First(Extents(8, b"abcdefgh")), Shown),
+    (First(CopyOut(3, b"defg")), Shown),
+    (First(PushCopy(b"i")), Done),
+    (SplitFront(4), Count(4)),
+    (First(Extents(9, b"efghi")), Shown),
+    (Second(Extents(9, b"abcd")), Shown),
+    (SplitFront(1), Count(1)),
+    (SplitFront(2), Count(2)),
+    (Second(Extents(9, b"abcdefg")), Shown),
+    (Second(Drain(9)), Done),
+    (Second(Ticket), Count(1)),
+    (Second(Ticket), Count(2)),
+    (Second(Ticket), No),
+    (First(Ticket), No),
+    (First(Extents(9, b"hi")), Shown),
+];
+
+#[test]
+fn chunks_keep_their_order_as_they_move(rt: HostRuntime) {
+    let mut first = Chain::new(rt.alloc());
+    let mut second = Chain::new(rt.alloc());
+    let wrong = first_wrong_step(&mut first, &mut second, MOVED);
+    drop(second);
+    drop(first);
+    assert_eq!(rt; wrong, None);
+}
+
+/// How many references are let go at once.
+const REFERENCES: u32 = 1_000_000;
+
+fn refer_often(chain: &mut Chain, slice: &RcSlice<u8>) -> Result<(), ChainFault> {
+    for _ in 0..REFERENCES {
+        chain.push_ref(slice.clone()?, 1)?;
+    }
+    Ok(())
+}
+
+#[test]
+fn a_long_chain_of_references_is_let_go(rt: HostRuntime) -> Result<(), Fail> {
+    let slice = RcSlice::from_slice(rt.alloc(), b"ab")?;
+    let mut chain = Chain::new(rt.alloc());
+    let came = refer_often(&mut chain, &slice);
+    let mut last = [0u8; 1];
+    let read = chain.copy_out(1_999_999, &mut last);
+    let length = chain.len();
+    drop(chain);
+    let left = RcSlice::strong_count(&slice);
+    drop(slice);
+    assert_eq!(rt; (came, length, read, last[0], left), (Ok(()), 2_000_000, 1, b'b', 1));
+    Ok(())
 }
 
 /// How many small pieces come in a row.

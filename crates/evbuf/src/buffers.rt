@@ -1,6 +1,6 @@
 // Buffers by number, between which bytes are moved.
 ghost use Rattle.std.specs.Prelude.{◌≡◌, ◌≢◌, ◌<◌, length, replicate, OnOk, OnErr, IfOk, None, min, slice_set, slice_index_or, IsTrue, ◌↔◌};
-ghost use Rattle.byte_queue.specs.MemoryAnswers.{AnswersOr};
+ghost use Rattle.byte_queue.specs.MemoryAnswers.{AnswersOr, fault_of};
 ghost use Rattle.evbuf.specs.Steps.{new_buffer, after_giving, after_taking, after_giving_all, after_taking_all};
 ghost use Rattle.evbuf.specs.Moves.{buffer_at, move_all_refusal, move_some_refusal, MovesAll, MovesSome};
 ghost use Rattle.evbuf.specs.declared.fault.BufFault.TheVariants.{Memory};
@@ -72,7 +72,7 @@ impl Buffers {
     pub fn move_all(&mut self, to: usize, from: usize) -> Result<(), BufFault>
         requires to_there { to < length self.old }
         requires from_there { from < length self.old }
-        ensures answer { AnswersOr Memory result (move_all_refusal self.old to from) }
+        ensures answer { fault_of result ≡ move_all_refusal self.old to from }
         ensures ok { OnOk result (MovesAll self.old to from self.new) }
         ensures err { OnErr result (self.new ≡ self.old) }
     {

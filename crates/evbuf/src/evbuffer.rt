@@ -91,16 +91,6 @@ impl Evbuffer {
         self.chain.len()
     }
 
-    /// The first n bytes, or all where there are fewer, in one piece. Takes no memory, and costs the same for any n. No
-    /// frozen end refuses it.
-    ///
-    /// Own.
-    pub fn front(&self, n: usize) -> &[u8]
-        ensures { result.now ≡ take n self.now.bytes }
-    {
-        self.chain.front(n)
-    }
-
     /// Frees the room of a buffer without a byte, and does nothing where there is one. Takes no memory, and no frozen end
     /// refuses it. Constant cost.
     ///
@@ -176,7 +166,7 @@ impl Evbuffer {
 
     /// Adds a reference to bytes at the end. Its ticket is released once, when the last of its bytes has left the buffer
     /// that holds it or was copied by a pullup; at once where there is none. What is spare afterwards is left open. Takes
-    /// memory; linear in the bytes, which are copied.
+    /// memory for a node; constant cost, since no byte is copied.
     ///
     /// Libevent: event2/buffer.h, `evbuffer_add_reference`; "Evbuffers".
     /// Differs: a ticket stands in place of the cleanup function, and a reference of no bytes is released at once.
@@ -241,7 +231,7 @@ impl Evbuffer {
         self.chain.copy_out(from, into)
     }
 
-    /// The first n bytes, or all where there are fewer, as slices that joined are these bytes. Constant cost.
+    /// The first n bytes, or all where there are fewer, as slices that joined are these bytes. Linear in the chunks.
     ///
     /// Libevent: event2/buffer.h, `evbuffer_peek`; "Evbuffers".
     pub fn extents(&self, n: usize) -> Result<SmallVec<&[u8], 8>, BufFault>
@@ -254,12 +244,12 @@ impl Evbuffer {
         }
     }
 
-    /// Moves all bytes of another buffer, with their marks, to the end. Both tell their callbacks. What is spare
-    /// afterwards is left open in both. Takes memory where there is less room; linear in what it moves, over many calls.
+    /// Moves all bytes of another buffer, with their marks, to the end, chunk by chunk: none is copied. Both tell their
+    /// callbacks. What is spare afterwards is left open in both. Takes no memory; linear in the chunks that it moves.
     ///
     /// Libevent: event2/buffer.h, `evbuffer_add_buffer`; "Evbuffers".
     pub fn add_buffer(&mut self, from: &mut Evbuffer) -> Result<(), BufFault>
-        ensures answer { AnswersOr Memory result (move_refusal self.old from.old (length from.old.bytes)) }
+        ensures answer { fault_of result ≡ move_refusal self.old from.old (length from.old.bytes) }
         ensures ok { OnOk result (self.new ≡ after_taking_all self.old from.old self.new.spare) }
         ensures from_ok { OnOk result (from.new ≡ after_giving_all from.old from.new.spare) }
         ensures err { OnErr result (self.new ≡ self.old) }
@@ -269,7 +259,10 @@ impl Evbuffer {
         from.front_open()?;
         let before = self.chain.len();
         let moved = from.chain.len();
-        self.chain.append_all(&mut from.chain)?;
+        if moved > usize::MAX - before {
+            return Err(BufFault::Spent);
+        }
+        self.chain.append_all(&mut from.chain);
         self.callbacks.change(before, moved, 0);
         from.callbacks.change(moved, 0, moved);
         Ok(())

@@ -1,4 +1,10 @@
+pub mod ChainLemmas
+pub mod CoveredLemmas
+pub mod DrainLemmas
+pub mod EndLemmas
 pub mod MarkLemmas
-pub mod RunLemmas
+pub mod PieceFacts
+pub mod PieceLemmas
+pub mod PullupLemmas
+pub mod ShownLemmas
 pub mod TicketLemmas
-pub mod UnmarkedLemmas

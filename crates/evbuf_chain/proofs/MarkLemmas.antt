@@ -1,6 +1,6 @@
 -- Marks of the first bytes of a list, and of those behind them.
 use Rattle.std.proofs.Common.{◌≡◌, ℕ, zero, suc, ◌+◌, ◌-◌, ◌<◌, ◌≤◌, [], ◌∷◌, ◌++◌, length, take, drop, refl, ap, sym, ◌∙◌, append_assoc}
-use Rattle.std.proofs.Common.{arith, Some, None, length-append, length-take}
+use Rattle.std.proofs.Common.{arith, Some, None, length-append, length-take, if◌then◌else◌, ◌==◌}
 use Rattle.std.proofs.lemmas.List.{take-append-le, drop-append-le, length-replicate}
 use Rattle.std.proofs.lemmas.Grind.{common_steps}
 use Rattle.std.proofs.Math.Seq.{take-append-add, drop-append-add}
@@ -221,3 +221,43 @@ pub length-uncut_marks : (xs : Marks) → length (uncut_marks xs) ≡ length xs
 length-uncut_marks [] = refl
 length-uncut_marks (None ∷ xs) = omega (arith, length-uncut_marks xs)
 length-uncut_marks (Some mark ∷ xs) = omega (arith, length-uncut_marks xs)
+
+-- a reference with bytes is not released as it comes in
+pub no-ticket : (n ticket : ℕ) → 0 < n → (if n == 0 then ticket ∷ [] else []) ≡ []
+no-ticket n ticket some = grind (arith, common_steps)
+
+-- marks without a reference are whole, and so are those of a reference, whatever comes behind
+pub AreWhole-unmarked : (n : ℕ) (xs : Marks) → AreWhole xs → AreWhole (unmarked n ++ xs)
+AreWhole-unmarked zero xs whole = whole
+AreWhole-unmarked (suc n) xs whole = AreWhole-unmarked n xs whole
+
+pub AreWhole-reference : (ticket n : ℕ) (xs : Marks) → AreWhole xs → AreWhole (reference_marks ticket n ++ xs)
+AreWhole-reference ticket zero xs whole = whole
+AreWhole-reference ticket (suc n) xs whole = ((xs, refl), AreWhole-reference ticket n xs whole)
+
+pub length-unmarked : (n : ℕ) → length (unmarked n) ≡ n
+length-unmarked n = length-replicate n None
+
+pub ended_tickets-unmarked-all : (n : ℕ) → ended_tickets (unmarked n) ≡ []
+ended_tickets-unmarked-all zero = refl
+ended_tickets-unmarked-all (suc n) = ended_tickets-unmarked-all n
+
+pub uncut_marks-unmarked-all : (n : ℕ) → uncut_marks (unmarked n) ≡ unmarked n
+uncut_marks-unmarked-all zero = refl
+uncut_marks-unmarked-all (suc n) = ap (λ ms. None ∷ ms) (uncut_marks-unmarked-all n)
+
+-- marks that are whole stay before others
+pub uncut_marks-before : (xs ys : Marks) → AreWhole xs → uncut_marks (xs ++ ys) ≡ xs ++ uncut_marks ys
+uncut_marks-before [] ys whole = refl
+uncut_marks-before (None ∷ xs) ys whole = ap (λ ms. None ∷ ms) (uncut_marks-before xs ys whole)
+uncut_marks-before (Some mark ∷ xs) ys whole =
+    let there : mark.behind ≤ length (xs ++ ys) =
+    omega (
+      arith,
+      ap length whole.0.1,
+      length-append xs ys,
+      length-append (reference_marks mark.ticket mark.behind) whole.0.0,
+      length-reference_marks mark.ticket mark.behind,
+    ) in
+    ap (λ m. m ∷ uncut_marks (xs ++ ys)) (uncut_mark-there (length (xs ++ ys)) mark there)
+    ∙ ap (λ ms. Some mark ∷ ms) (uncut_marks-before xs ys whole.1)

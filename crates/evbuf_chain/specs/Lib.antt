@@ -1,6 +1,11 @@
 pub mod Buffered
-pub mod Inner
-pub mod Made
+pub mod ChainView
+pub mod Covered
+pub mod Leaving
 pub mod Mark
+pub mod OwnView
+pub mod PieceViews
+pub mod Pieced
+pub mod PiecesView
+pub mod StackView
 pub mod Tickets
-pub mod Views

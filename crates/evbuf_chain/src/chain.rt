@@ -1,9 +1,12 @@
 // Bytes in order with the marks of the references that were added to them.
 //
 // What a chain keeps:
-// 1. Each byte has a mark or none. A reference's marks stand in a row and run down to its last byte.
-// 2. Bytes come in behind or in front, and leave at the front alone.
+// 1. Its bytes lie in chunks, each in memory of its own or what is left of a shared slice, and behind all chunks in memory of its own.
+// 2. Only the bytes of a shared slice have marks, which run down to its last byte. Bytes come in behind or in front, and leave at the
+//    front alone.
 // 3. A ticket is released when the last mark of its reference goes, or as it comes in where the reference has no bytes.
+// 4. Where there are bytes, or room for some, behind all chunks, there is a node in which they become a chunk. So chunks go to another
+//    chain without taking memory.
 ghost use Rattle.std.specs.Prelude.{◌≡◌, ◌≤◌, ◌<◌, ◌+◌, ◌-◌, ◌*◌, ◌^◌, ◌++◌, ◌∷◌, ◌==◌, ◌↔◌, [], length, drop, take, min, nat_lt};
 ghost use Rattle.std.specs.Prelude.{OnOk, OnErr};
 ghost use Rattle.std.specs.Prelude.{IfOk, IfSome, IfNone, None, if◌then◌else◌};
@@ -14,9 +17,14 @@ ghost use Rattle.byte_queue.specs.QueuedBytes.{most_spare};
 ghost use Rattle.evbuf_chain.specs.declared.fault.ChainFault.TheVariants.{Memory};
 ghost use Rattle.std.specs.Rc.{rc_slice_items};
 
+use crate::ends::{move_front, pull, put_before, put_behind, seal};
 use crate::fault::ChainFault;
-use crate::made_marks::{self, MadeMarks};
-use byte_queue::ByteQueue;
+use crate::own::Own;
+use crate::piece::Piece;
+use crate::pieces::Pieces;
+use crate::queue::Queue;
+use crate::stack::make_node;
+use crate::{moves, reading};
 use smallvec::SmallVec;
 use std::alloc::Global;
 use std::marker::Model;
@@ -29,21 +37,22 @@ use std::rc::RcSlice;
 /// Differs: a reference tells of its end by a ticket number, and no function of the caller is called.
 #[derive(Drop)]
 pub struct Chain {
-    bytes: ByteQueue,
-    // Made with the first reference. Until then no byte has a mark.
-    marks: MadeMarks,
+    own: Own,
+    pieces: Pieces,
+    // The tickets that wait to be taken.
+    ended: Queue,
 }
 
 impl Model for Chain {
-    ghost use Rattle.std.specs.Prelude.{◌≡◌, length};
     ghost use Rattle.evbuf_chain.specs.Buffered.{Buffered};
-    ghost use Rattle.evbuf_chain.specs.Made.{marks_of, released_of};
 
     ghost Value = { Buffered };
 
-    ghost view = { λ chain. record { bytes = chain.bytes.items; marks = marks_of (length chain.bytes.items) chain.marks; spare = chain.bytes.spare; released = released_of chain.marks } };
+    ghost use Rattle.evbuf_chain.specs.ChainView.{buffered, IsChain};
 
-    ghost invariant = { λ chain. length (marks_of (length chain.bytes.items) chain.marks) ≡ length chain.bytes.items };
+    ghost view = { buffered };
+
+    ghost invariant = { IsChain };
 }
 
 impl Chain {
@@ -62,8 +71,9 @@ impl Chain {
         ensures released { result.released ≡ [] }
     {
         Chain {
-            bytes: ByteQueue::new(alloc),
-            marks: None,
+            own: Own::new(alloc),
+            pieces: Pieces::new(),
+            ended: Queue::new(),
         }
     }
 
@@ -71,7 +81,7 @@ impl Chain {
     ///
     /// Own.
     pub fn allocator(&self) -> Global {
-        self.bytes.allocator()
+        self.own.allocator()
     }
 
     /// How many bytes there are. Takes no memory; constant cost.
@@ -81,18 +91,7 @@ impl Chain {
         ensures marked { length self.now.marks ≡ length self.now.bytes }
         ensures whole { AreWhole self.now.marks }
     {
-        let _references = made_marks::references(&self.marks);
-        self.bytes.len()
-    }
-
-    /// The first n bytes, or all where there are fewer, in one piece. Takes no memory, and costs the same for any n.
-    ///
-    /// Own.
-    pub fn front(&self, n: usize) -> &[u8]
-        ensures { result.now ≡ take n self.now.bytes }
-    {
-        let (bytes, _) = self.bytes.as_slice().split_at(n.min(self.bytes.len()));
-        bytes
+        self.pieces.len() + self.own.len()
     }
 
     /// Frees the room of a chain without a byte, and does nothing where there is one. Takes no memory; constant cost.
@@ -101,7 +100,9 @@ impl Chain {
     pub fn give_up(&mut self)
         ensures { self.new ≡ given_up self.old }
     {
-        self.bytes.give_up();
+        if self.pieces.len() == 0 {
+            self.own.give_up();
+        }
     }
 
     /// Makes room for at least n more bytes at the end, and for no more than n and seven times the length where there was
@@ -116,7 +117,10 @@ impl Chain {
         ensures most { self.new.spare ≤ most_spare self.old.spare n (length self.old.bytes) }
         ensures err { OnErr result (self.new ≡ self.old) }
     {
-        self.bytes.reserve(n)?;
+        if n > usize::MAX - self.len() {
+            return Err(ChainFault::Memory);
+        }
+        self.own.reserve(n)?;
         Ok(())
     }
 
@@ -128,9 +132,7 @@ impl Chain {
         ensures released { self.new.released ≡ self.old.released }
         ensures spare { self.new.spare + length bytes.now ≡ self.old.spare }
     {
-        let _len = self.bytes.len();
-        self.bytes.push(bytes);
-        made_marks::add_unmarked(&mut self.marks, bytes.len());
+        self.own.push(bytes);
     }
 
     /// Copies bytes in at the end. Where the length would not fit a usize it is refused as Spent, before want of memory.
@@ -144,8 +146,7 @@ impl Chain {
         ensures err { OnErr result (self.new ≡ self.old) }
     {
         self.fits(bytes.len())?;
-        self.bytes.append(bytes)?;
-        made_marks::add_unmarked(&mut self.marks, bytes.len());
+        self.own.append(bytes)?;
         Ok(())
     }
 
@@ -163,10 +164,15 @@ impl Chain {
         ensures err { OnErr result (self.new ≡ self.old) }
     {
         self.fits(bytes.len())?;
-        let alloc = self.bytes.allocator();
-        made_marks::reserve(&mut self.marks, self.bytes.len(), 1, alloc)?;
-        self.bytes.append(bytes.as_slice())?;
-        made_marks::add_reference(&mut self.marks, bytes.len(), ticket);
+        let alloc = self.own.allocator();
+        if bytes.len() == 0 {
+            self.ended
+                .push_back(make_node(alloc, Piece::ended(ticket))?);
+            return Ok(());
+        }
+        let node = make_node(alloc, Piece::shared(bytes, ticket))?;
+        seal(&mut self.own, &mut self.pieces);
+        self.pieces.push_back(node);
         Ok(())
     }
 
@@ -181,8 +187,13 @@ impl Chain {
         ensures err { OnErr result (self.new ≡ self.old) }
     {
         self.fits(bytes.len())?;
-        self.bytes.prepend(bytes)?;
-        made_marks::prepend_unmarked(&mut self.marks, bytes.len());
+        if bytes.len() > usize::MAX - self.len() - self.own.spare() {
+            return Err(ChainFault::Memory);
+        }
+        if bytes.is_empty() {
+            return Ok(());
+        }
+        put_before(&mut self.pieces, &mut self.own, bytes)?;
         Ok(())
     }
 
@@ -194,9 +205,9 @@ impl Chain {
         ensures spare { self.old.spare ≤ self.new.spare }
         ensures most { length self.new.bytes + self.new.spare ≤ self.old.spare + 4 * length self.old.bytes }
     {
-        let n = n.min(self.bytes.len());
-        self.bytes.drop_front(n);
-        made_marks::drop_front(&mut self.marks, n);
+        let _marked = self.pieces.len();
+        let left = moves::drain(&mut self.pieces, &mut self.ended, n);
+        self.own.drop_front(left.min(self.own.len()));
     }
 
     /// Copies the bytes from a place on, as many as are there and fit, and answers how many. Takes no memory; linear in
@@ -205,11 +216,10 @@ impl Chain {
         ensures count { result ≡ min (length into.old) (length self.now.bytes - from) }
         ensures copied { into.new ≡ take result (drop from self.now.bytes) ++ drop result into.old }
     {
-        let (_, rest) = self.bytes.as_slice().split_at(from.min(self.bytes.len()));
-        let count = rest.len().min(into.len());
-        let (bytes, _) = rest.split_at(count);
-        let (place, _) = into.split_at_mut(count);
-        place.copy_from_slice(bytes);
+        let count = self.len().saturating_sub(from).min(into.len());
+        let (window, _) = into.split_at_mut(count);
+        self.pieces.copy_out(from, window);
+        reading::copy_part(self.own.as_slice(), self.pieces.len(), from, window);
         count
     }
 
@@ -218,8 +228,12 @@ impl Chain {
         ensures answer { AnswersOr Memory result None }
         ensures bytes { IfOk result (λ slices. joined slices.items ≡ take n self.now.bytes) }
     {
-        let mut slices = SmallVec::new(self.bytes.allocator());
-        slices.push(self.front(n))?;
+        let mut slices = SmallVec::new(self.own.allocator());
+        self.pieces.extents(self.own.allocator(), n, &mut slices)?;
+        let left = n.saturating_sub(self.pieces.len());
+        if left > 0 {
+            slices.push(reading::first(self.own.as_slice(), left))?;
+        }
         Ok(slices)
     }
 
@@ -234,21 +248,14 @@ impl Chain {
         ensures front { PullupAnswer self.old.bytes n result }
         ensures* after { sem 𝓛 (follows_so the_row the_row self.entry.ghost_name none (λ _ _. ⊤) (λ new. AfterPullup self.old n result new)) }
     {
-        if n > self.bytes.len() {
+        if n > self.len() {
             return Ok(None);
         }
-        self.unmark(n);
-        Ok(Some(self.front(n)))
-    }
-
-    // Takes the marks off the first n bytes.
-    fn unmark(&mut self, n: usize)
-        requires { n ≤ length self.old.bytes }
-        ensures { IsPulledUp self.old n self.new }
-    {
-        let _len = self.bytes.len();
-        made_marks::drop_front(&mut self.marks, n);
-        made_marks::prepend_unmarked(&mut self.marks, n);
+        if n == 0 || self.pieces.len() == 0 {
+            return Ok(Some(reading::first(self.own.as_slice(), n)));
+        }
+        pull(&mut self.pieces, &mut self.own, &mut self.ended, n)?;
+        Ok(Some(self.pieces.first(n)))
     }
 
     /// The ticket that was released first and not taken yet, or none. Takes no memory; constant cost.
@@ -259,7 +266,7 @@ impl Chain {
         ensures none { IfNone result ((self.old.released ≡ []) × (self.new.released ≡ [])) }
         ensures some { IfSome result (λ ticket. self.old.released ≡ ticket ∷ self.new.released) }
     {
-        made_marks::take_released(&mut self.marks)
+        moves::take_ticket(&mut self.ended)
     }
 
     /// Moves the first n bytes, or all where there are fewer, to the end of another chain, and answers how many. Where a
@@ -282,42 +289,48 @@ impl Chain {
         ensures err { OnErr result (self.new ≡ self.old) }
         ensures to_err { OnErr result (to.new ≡ to.old) }
     {
-        let n = n.min(self.bytes.len());
+        let n = n.min(self.len());
         to.fits(n)?;
-        let alloc = to.bytes.allocator();
-        made_marks::reserve_moved(&self.marks, n, &mut to.marks, to.bytes.len(), alloc)?;
-        let (bytes, _) = self.bytes.as_slice().split_at(n);
-        to.bytes.append(bytes)?;
-        self.bytes.drop_front(n);
-        made_marks::move_front(&mut self.marks, n, &mut to.marks);
+        move_front(
+            &mut self.pieces,
+            &mut self.own,
+            &mut self.ended,
+            n,
+            &mut to.pieces,
+            &mut to.own,
+        )?;
         Ok(n)
     }
 
-    /// Moves all bytes of another chain, with their marks, to the end. Refused as `split_front`. What is spare in either is
-    /// left open. Costs what `split_front` does.
+    /// Moves all bytes of another chain, with their marks, to the end, chunk by chunk: none is copied. What is spare in either is
+    /// left open. Takes no memory; linear in the chunks that are moved, and constant where this chain has none.
     ///
     /// Libevent: event2/buffer.h, `evbuffer_add_buffer`; "Evbuffers".
-    pub fn append_all(&mut self, from: &mut Chain) -> Result<(), ChainFault>
-        ensures answer { AnswersOr Memory result (length_refusal (length self.old.bytes + length from.old.bytes)) }
-        ensures bytes { OnOk result (self.new.bytes ≡ self.old.bytes ++ from.old.bytes) }
-        ensures marks { OnOk result (self.new.marks ≡ self.old.marks ++ from.old.marks) }
-        ensures from_bytes { OnOk result (from.new.bytes ≡ []) }
-        ensures from_marks { OnOk result (from.new.marks ≡ []) }
+    pub fn append_all(&mut self, from: &mut Chain)
+        requires { length self.old.bytes + length from.old.bytes < 2 ^ 64 }
+        ensures bytes { self.new.bytes ≡ self.old.bytes ++ from.old.bytes }
+        ensures marks { self.new.marks ≡ self.old.marks ++ from.old.marks }
+        ensures from_bytes { from.new.bytes ≡ [] }
+        ensures from_marks { from.new.marks ≡ [] }
 
         ensures released { self.new.released ≡ self.old.released }
         ensures from_released { from.new.released ≡ from.old.released }
-        ensures err { OnErr result (self.new ≡ self.old) }
-        ensures from_err { OnErr result (from.new ≡ from.old) }
+        ensures spare { self.new.spare ≡ 0 }
     {
-        from.split_front(from.len(), self)?;
-        Ok(())
+        put_behind(
+            &mut self.pieces,
+            &mut self.own,
+            &mut from.pieces,
+            &mut from.own,
+        );
     }
 
     // Whether so many more bytes leave a length that fits a usize.
     fn fits(&self, n: usize) -> Result<(), ChainFault>
-        ensures { fault_of result ≡ length_refusal (length self.now.bytes + n) }
+        ensures answer { fault_of result ≡ length_refusal (length self.now.bytes + n) }
+        ensures room { OnOk result (length self.now.bytes + n < 2 ^ 64) }
     {
-        if n > usize::MAX - self.bytes.len() {
+        if n > usize::MAX - self.len() {
             return Err(ChainFault::Spent);
         }
         Ok(())

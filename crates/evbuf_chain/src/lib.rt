@@ -2,11 +2,16 @@
 #![tactic(auto)]
 
 mod chain;
+mod ends;
 mod fault;
 mod laws;
-mod made_marks;
-mod mark_list;
-mod run;
+mod moves;
+mod own;
+mod piece;
+mod pieces;
+mod queue;
+mod reading;
+mod stack;
 
 pub use chain::Chain;
 pub use fault::ChainFault;

@@ -1,13 +1,16 @@
-use Rattle.std.proofs.Common.{◌≡◌, ◌++◌, length, take, ap, ◌∙◌, sym}
-use Rattle.std.proofs.Math.Seq.{take-length}
-use Rattle.evbuf_chain.specs.Mark.{uncut_marks}
-use Rattle.evbuf_chain.proofs.MarkLemmas.{uncut_marks-whole}
+use Rattle.std.proofs.Common.{length, ap, arith, length-append}
+use Rattle.evbuf_chain.specs.Pieced.{all_bytes}
 use Rattle.evbuf_chain.proofs.chain.Chain.append_all.Goals as goal
 
-pub returns-clause-marks : goal.returns-clause-marks
-returns-clause-marks c =
-    let all : c.len.result ≡ length c.args.from.now.marks = c.len.ensures.len ∙ sym c.len.ensures.marked in
-    c.in_ok-split_front.ensures.to_marks
-    ∙ ap (λ ms. c.args.self.now.marks ++ uncut_marks ms)
-    (ap (λ n. take n c.args.from.now.marks) all ∙ take-length c.args.from.now.marks)
-    ∙ ap (λ ms. c.args.self.now.marks ++ ms) (uncut_marks-whole c.args.from.now.marks c.len.ensures.whole)
+pub invariant_of-self : goal.invariant_of-self
+invariant_of-self c =
+    omega (
+      arith,
+      ap length c.put_behind.ensures.bytes,
+      length-append c.put_behind.new.pieces.bytes c.put_behind.new.own.items,
+      length-append (all_bytes c.self.inside.pieces c.self.inside.own) (all_bytes c.from.inside.pieces c.from.inside.own),
+      c.put_behind.ensures.spare,
+      c.requires,
+      ap (λ v. length v.bytes) c.self.view_is,
+      ap (λ v. length v.bytes) c.from.view_is,
+    )

@@ -1,0 +1,16 @@
+use Rattle.std.proofs.Common.{◌≡◌, length, subst}
+use Rattle.evbuf_chain.specs.Mark.{AreWhole}
+use Rattle.evbuf_chain.specs.Pieced.{Pieced}
+use Rattle.evbuf_chain.proofs.PieceFacts.{pieced-marked, pieced-whole}
+use Rattle.evbuf_chain.proofs.piece.Piece.len.Goals as goal
+
+pub returns-in-Own-clause-whole : goal.returns-in-Own-clause-whole
+returns-in-Own-clause-whole c = let P : Pieced → Type 0 = λ p. AreWhole p.marks in subst P c.self.view_is (pieced-whole c.self.inside.held)
+
+pub returns-in-Shared-clause-marked : goal.returns-in-Shared-clause-marked
+returns-in-Shared-clause-marked c =
+    let P : Pieced → Type 0 = λ p. length p.marks ≡ length p.bytes in subst P c.self.view_is (pieced-marked c.self.inside.held)
+
+pub returns-in-Shared-clause-whole : goal.returns-in-Shared-clause-whole
+returns-in-Shared-clause-whole c =
+    let P : Pieced → Type 0 = λ p. AreWhole p.marks in subst P c.self.view_is (pieced-whole c.self.inside.held)
