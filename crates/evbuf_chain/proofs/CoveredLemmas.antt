@@ -1,5 +1,6 @@
 -- Bytes that are written in parts.
-use Rattle.std.proofs.Common.{◌≡◌, ℕ, zero, suc, ◌+◌, ◌-◌, ◌<◌, ◌≤◌, List, [], ◌∷◌, ◌++◌, length, take, drop, min, refl, ap, sym, ◌∙◌, arith}
+use Rattle.std.proofs.Common.{◌≡◌, ℕ, zero, suc, ◌+◌, ◌-◌, ◌<◌, ◌≤◌, List, [], ◌∷◌, ◌++◌, length, take, drop, min, refl, ap, sym, ◌∙◌}
+use Rattle.std.proofs.Common.{arith}
 use Rattle.std.proofs.Common.{length-drop, inl, inr}
 use Rattle.std.proofs.lemmas.List.{drop-append-le, drop_all, take-append-drop, length-append}
 use Rattle.std.proofs.lemmas.Bool.Decides.{leb_tells}
@@ -25,7 +26,8 @@ overlaid-parts (suc n) (b ∷ bytes) (u ∷ under) least = ap (λ bs. b ∷ bs) 
 
 -- the first part, and then the part behind it
 pub overlaid-then : (first more under : List ℕ)
-    → take (length first) (overlaid first under) ++ overlaid more (drop (length first) (overlaid first under)) ≡ overlaid (first ++ more) under
+    → take (length first) (overlaid first under) ++ overlaid more (drop (length first) (overlaid first under))
+    ≡ overlaid (first ++ more) under
 overlaid-then [] more under = refl
 overlaid-then (b ∷ first) more [] = overlaid-on_none more
 overlaid-then (b ∷ first) more (u ∷ under) = ap (λ bs. b ∷ bs) (overlaid-then first more under)
@@ -62,7 +64,8 @@ laid-before (suc gap) (suc end) first more [] is =
 laid-before (suc gap) (suc end) first more (w ∷ window) is = ap (λ bs. w ∷ bs) (laid-before gap end first more window (omega (arith, is)))
 
 -- what a part of a chain covers, as a gap or as bytes that are skipped
-covered-skipped : (place : ℕ) (bytes : List ℕ) (from : ℕ) (window : List ℕ) → length bytes < from - place → covered place bytes from window ≡ window
+covered-skipped : (place : ℕ) (bytes : List ℕ) (from : ℕ) (window : List ℕ) → length bytes < from - place
+    → covered place bytes from window ≡ window
 covered-skipped place bytes from window past =
     let none : drop (from - place) bytes ≡ [] = drop_all (from - place) bytes (omega (arith, past)) in
     let at_front : place - from ≡ 0 = omega (arith, past) in

@@ -4,8 +4,8 @@ use Rattle.std.proofs.Common.{append_assoc, append-nil, arith, length-append}
 use Rattle.std.proofs.lemmas.List.{take-append-le, drop-append-le, drop_all}
 use Rattle.std.proofs.Math.Seq.{take-append-add, drop-append-add}
 use Rattle.evbuf_chain.specs.Mark.{Marks, unmarked, ended_tickets, uncut_marks, AreWhole}
-use Rattle.evbuf_chain.specs.Pieced.{Gathered}
-use Rattle.evbuf_chain.specs.Leaving.{Drained, MovesWhole}
+use Rattle.evbuf_chain.specs.ChunkValue.{Gathered}
+use Rattle.evbuf_chain.specs.Leaving.{FrontGone, MovesWhole}
 use Rattle.evbuf_chain.proofs.MarkLemmas.{ended_tickets-append, uncut_marks-before}
 
 pub take-past : {A : Type 0} (n : ℕ) (xs ys : List A) → length xs ≤ n → take n (xs ++ ys) ≡ xs ++ take (n - length xs) ys
@@ -71,8 +71,9 @@ pub Drains-cut : (all : Gathered) (released : List ℕ) (of_all n : ℕ) (rest :
     → rest.bytes ≡ bytes ++ more.bytes → rest.marks ≡ marks ++ more.marks → length marks ≡ length bytes → n < length bytes
     → cut_bytes ≡ drop n bytes → cut_marks ≡ drop n marks → ended_tickets (take n marks) ≡ []
     → last.bytes ≡ cut_bytes ++ more.bytes → last.marks ≡ cut_marks ++ more.marks
-    → Drained all released of_all 0 last now
-Drains-cut all released of_all n rest now bytes marks cut_bytes cut_marks more last so bytes_are marks_are marked cut cut_bytes_are cut_marks_are
+    → FrontGone all released of_all 0 last now
+Drains-cut all released of_all n rest now bytes marks cut_bytes cut_marks more last so bytes_are marks_are marked cut cut_bytes_are
+    cut_marks_are
     no_end last_bytes last_marks =
     let fits : n ≤ length bytes = omega (arith, cut) in
     let fits_marks : n ≤ length marks = omega (arith, cut, marked) in
@@ -97,7 +98,7 @@ Drains-cut all released of_all n rest now bytes marks cut_bytes cut_marks more l
 
 -- nothing is left to do, or no chunk
 pub Drains-done : (all : Gathered) (released : List ℕ) (of_all : ℕ) (rest : Gathered) (now : List ℕ)
-    → Drains all released of_all 0 rest now → Drained all released of_all 0 rest now
+    → Drains all released of_all 0 rest now → FrontGone all released of_all 0 rest now
 Drains-done all released of_all rest now so = record {
   left = omega (arith, so.left);
   bytes = so.bytes;
@@ -108,7 +109,7 @@ Drains-done all released of_all rest now so = record {
 pub Drains-none : (all : Gathered) (released : List ℕ) (of_all n : ℕ) (rest : Gathered) (now : List ℕ) (last : Gathered)
     → Drains all released of_all n rest now
     → rest.bytes ≡ [] → rest.marks ≡ [] → last.bytes ≡ [] → last.marks ≡ []
-    → Drained all released of_all n last now
+    → FrontGone all released of_all n last now
 Drains-none all released of_all n rest now last so no_bytes no_marks last_bytes last_marks = record {
   left = omega (arith, so.left, ap length no_bytes);
   bytes = last_bytes ∙ sym (drop_all n rest.bytes (omega (arith, ap length no_bytes))) ∙ so.bytes;
@@ -148,7 +149,8 @@ copied-none into_old into_now all rest of_all n so none =
     sym (append-nil into_now) ∙ ap (λ bs. into_now ++ bs) (sym (none-taken n rest none)) ∙ so
 
 -- a whole chunk is moved
-pub MovesWhole-whole : (old others : Gathered) (of_all n : ℕ) (rest moved : Gathered) (bytes : List ℕ) (marks : Marks) (more then : Gathered)
+pub MovesWhole-whole : (old others : Gathered) (of_all n : ℕ) (rest moved : Gathered) (bytes : List ℕ) (marks : Marks)
+    (more then : Gathered)
     → MovesWhole old others of_all n rest moved
     → rest.bytes ≡ bytes ++ more.bytes → rest.marks ≡ marks ++ more.marks → length marks ≡ length bytes → length bytes ≤ n
     → AreWhole marks → then.bytes ≡ moved.bytes ++ bytes → then.marks ≡ moved.marks ++ marks
@@ -160,7 +162,8 @@ MovesWhole-whole old others of_all n rest moved bytes marks more then so bytes_a
     record {
       within = omega (arith, so.within);
       beyond = omega (arith, so.beyond, ap length bytes_are, length-append bytes more.bytes, within);
-      taken = copied-whole others.bytes moved.bytes then.bytes old.bytes rest.bytes bytes more.bytes of_all n so.taken bytes_are within then_bytes;
+      taken = copied-whole others.bytes moved.bytes then.bytes old.bytes rest.bytes bytes more.bytes of_all n so.taken bytes_are within
+          then_bytes;
       taken_marks =
           ap (λ ms. ms ++ uncut_marks (take k more.marks)) then_marks
           ∙ append_assoc moved.marks marks (uncut_marks (take k more.marks))

@@ -1,13 +1,15 @@
 -- Chunks and the own bytes behind them, as one list.
 use Rattle.std.proofs.Common.{◌≡◌, ℕ, zero, suc, ◌+◌, ◌-◌, ◌≤◌, List, [], ◌∷◌, ◌++◌, length, take, drop, min, refl, ap, sym, ◌∙◌, arith}
 use Rattle.std.proofs.Common.{append_assoc, append-nil, length-append, length-drop, length-take, inl, inr, None}
-use Rattle.std.proofs.lemmas.List.{take-append-le, drop-append-le, drop_all, take-replicate, drop-replicate, take-append-drop, replicate-append-replicate}
+use Rattle.std.proofs.lemmas.List.{take-append-le, drop-append-le, drop_all, take-replicate, drop-replicate, take-append-drop}
+use Rattle.std.proofs.lemmas.List.{replicate-append-replicate}
 use Rattle.std.proofs.lemmas.Bool.Decides.{leb_tells}
 use Rattle.evbuf_chain.specs.Mark.{Marks, unmarked, ended_tickets, uncut_marks, AreWhole}
-use Rattle.evbuf_chain.specs.Pieced.{Gathered, Owned, all_bytes, all_marks}
-use Rattle.evbuf_chain.specs.Leaving.{Drained, MovesWhole, Takes, PullsUp}
+use Rattle.evbuf_chain.specs.ChunkValue.{Gathered, Owned, all_bytes, all_marks}
+use Rattle.evbuf_chain.specs.Leaving.{FrontGone, MovesWhole, Takes, PullsUp}
 use Rattle.evbuf_chain.proofs.DrainLemmas.{take-past, drop-past}
-use Rattle.evbuf_chain.proofs.MarkLemmas.{ended_tickets-append, ended_tickets-unmarked-all, uncut_marks-unmarked-all, uncut_marks-before, uncut_marks-whole, length-unmarked}
+use Rattle.evbuf_chain.proofs.MarkLemmas.{ended_tickets-append, ended_tickets-unmarked-all, uncut_marks-unmarked-all}
+use Rattle.evbuf_chain.proofs.MarkLemmas.{uncut_marks-before, uncut_marks-whole, length-unmarked}
 
 -- the first n of two lists
 pub take-append : {A : Type 0} (n : ℕ) (xs ys : List A) → take n (xs ++ ys) ≡ take n xs ++ take (n - length xs) ys
@@ -52,7 +54,7 @@ drop-own n marks count =
 
 -- The chunks were drained of the first n bytes, and then the own bytes behind them of what the chunks had not.
 pub drained-bytes : (old new : Gathered) (own left : Owned) (released now : List ℕ) (n missing : ℕ)
-    → Drained old released n missing new now → left.items ≡ drop missing own.items
+    → FrontGone old released n missing new now → left.items ≡ drop missing own.items
     → all_bytes new left ≡ drop n (all_bytes old own)
 drained-bytes old new own left released now n missing so left_is =
     ap (λ bs. bs ++ left.items) so.bytes
@@ -60,7 +62,7 @@ drained-bytes old new own left released now n missing so left_is =
     ∙ sym (drop-append n old.bytes own.items)
 
 pub drained-marks : (old new : Gathered) (own left : Owned) (released now : List ℕ) (n missing : ℕ)
-    → Drained old released n missing new now → length old.marks ≡ length old.bytes → left.items ≡ drop missing own.items
+    → FrontGone old released n missing new now → length old.marks ≡ length old.bytes → left.items ≡ drop missing own.items
     → all_marks new left ≡ drop n (all_marks old own)
 drained-marks old new own left released now n missing so marked left_is =
     let count : length left.items ≡ length own.items - (n - length old.marks) =
@@ -71,7 +73,7 @@ drained-marks old new own left released now n missing so marked left_is =
     ∙ sym (drop-own n old.marks (length own.items))
 
 pub drained-ended : (old new : Gathered) (own : Owned) (released now : List ℕ) (n missing : ℕ)
-    → Drained old released n missing new now
+    → FrontGone old released n missing new now
     → now ≡ released ++ ended_tickets (take n (all_marks old own))
 drained-ended old new own released now n missing so =
     so.ended ∙ ap (λ ts. released ++ ts) (sym (ended-own n old.marks (length own.items)))

@@ -3,8 +3,8 @@ pub mod CoveredLemmas
 pub mod DrainLemmas
 pub mod EndLemmas
 pub mod MarkLemmas
-pub mod PieceFacts
-pub mod PieceLemmas
+pub mod ChunkFacts
+pub mod ChunkLemmas
 pub mod PullupLemmas
 pub mod ShownLemmas
 pub mod TicketLemmas

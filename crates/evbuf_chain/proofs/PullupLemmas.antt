@@ -1,8 +1,9 @@
 -- A pullup that leaves all as it is, since the first bytes are own bytes already, and one that made a chunk of them.
-use Rattle.std.proofs.Common.{◌≡◌, ℕ, ◌+◌, ◌-◌, ◌≤◌, ◌⊎◌, List, [], ◌++◌, length, take, drop, ap, sym, ◌∙◌, arith, inl, inr, append-nil, None, refl}
+use Rattle.std.proofs.Common.{◌≡◌, ℕ, ◌+◌, ◌-◌, ◌≤◌, ◌⊎◌, List, [], ◌++◌, length, take, drop, ap, sym, ◌∙◌, arith, inl, inr}
+use Rattle.std.proofs.Common.{append-nil, None, refl}
 use Rattle.std.proofs.lemmas.List.{drop-replicate, replicate-append-replicate}
 use Rattle.evbuf_chain.specs.Mark.{Marks, unmarked, ended_tickets}
-use Rattle.evbuf_chain.specs.Pieced.{tickets_of}
+use Rattle.evbuf_chain.specs.ChunkValue.{tickets_of}
 use Rattle.evbuf_chain.specs.Buffered.{IsPulledUp}
 use Rattle.evbuf_chain.specs.ChainView.{buffered}
 use Rattle.evbuf_chain.specs.Leaving.{PullsUp}
@@ -32,19 +33,19 @@ same-case n a b is (inl zero_is) = inl zero_is
 same-case n a b is (inr none) = inr (is ∙ none)
 
 -- no chunk is there, or no byte is asked for
-pub is-pulled_up : (chain : Inside) (n : ℕ) → (n ≡ 0) ⊎ (length chain.pieces.bytes ≡ 0)
-    → length chain.pieces.marks ≡ length chain.pieces.bytes → n ≤ length chain.pieces.bytes + length chain.own.items
+pub is-pulled_up : (chain : Inside) (n : ℕ) → (n ≡ 0) ⊎ (length chain.chunks.bytes ≡ 0)
+    → length chain.chunks.marks ≡ length chain.chunks.bytes → n ≤ length chain.chunks.bytes + length chain.own.items
     → IsPulledUp (buffered chain) n (buffered chain)
 is-pulled_up chain n already marked there =
     let k : ℕ = length chain.own.items in
-    let case = same-case n (length chain.pieces.marks) (length chain.pieces.bytes) marked already in
+    let case = same-case n (length chain.chunks.marks) (length chain.chunks.bytes) marked already in
     record {
       bytes = refl;
-      marks = still-marks chain.pieces.marks n k case (omega (arith, marked, there));
+      marks = still-marks chain.chunks.marks n k case (omega (arith, marked, there));
       spare = omega arith;
       released =
           sym (append-nil (tickets_of chain.ended))
-          ∙ ap (λ ts. tickets_of chain.ended ++ ts) (sym (still-ended chain.pieces.marks n k case));
+          ∙ ap (λ ts. tickets_of chain.ended ++ ts) (sym (still-ended chain.chunks.marks n k case));
     }
 
 pub front-own : (chunks own : List ℕ) (n : ℕ) → (n ≡ 0) ⊎ (length chunks ≡ 0) → take n own ≡ take n (chunks ++ own)
@@ -52,6 +53,6 @@ front-own chunks own n (inl zero_is) = ap (λ j. take j own) zero_is ∙ sym (ap
 front-own chunks own n (inr none) = ap (λ bs. take n (bs ++ own)) (sym (no-bytes chunks none))
 
 pub IsPulledUp-pulled : (old new : Inside) (n : ℕ)
-    → PullsUp old.pieces old.own (tickets_of old.ended) n new.pieces new.own (tickets_of new.ended)
+    → PullsUp old.chunks old.own (tickets_of old.ended) n new.chunks new.own (tickets_of new.ended)
     → IsPulledUp (buffered old) n (buffered new)
 IsPulledUp-pulled old new n so = record { bytes = so.bytes; marks = so.marks; spare = omega (arith, so.spare); released = so.ended }

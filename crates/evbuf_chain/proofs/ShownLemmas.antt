@@ -7,7 +7,8 @@ use Rattle.std.specs.Borrow.{Bor}
 use Rattle.evbuf_chain.specs.Buffered.{joined}
 use Rattle.evbuf_chain.proofs.EndLemmas.{take-append}
 
-pub joined-push : (slices now : List (Bor (List ℕ))) (slice : Bor (List ℕ)) → now ≡ slices ++ slice ∷ [] → joined now ≡ joined slices ++ slice.now
+pub joined-push : (slices now : List (Bor (List ℕ))) (slice : Bor (List ℕ)) → now ≡ slices ++ slice ∷ []
+    → joined now ≡ joined slices ++ slice.now
 joined-push slices now slice is =
     ap joined is ∙ flat_map-append (λ s. s.now) slices (slice ∷ []) ∙ ap (λ bs. joined slices ++ bs) (append-nil slice.now)
 
@@ -48,7 +49,8 @@ shown-before turned now slice n place k rest more last all so is within k_is now
     ap (λ bs. take (n - (place - k - length more)) more ++ bs) (joined-reverse_push turned now slice now_is)
     ∙ ap (λ bs. take (n - (place - k - length more)) more ++ (bs ++ joined (reverse turned))) slice_is
     ∙ ap (λ j. take (n - (place - j - length more)) more ++ (take (n - (place - j)) last ++ joined (reverse turned))) k_is
-    ∙ sym (append_assoc (take (n - (place - length last - length more)) more) (take (n - (place - length last)) last) (joined (reverse turned)))
+    ∙ sym (append_assoc (take (n - (place - length last - length more)) more) (take (n - (place - length last)) last)
+    (joined (reverse turned)))
     ∙ ap (λ bs. bs ++ joined (reverse turned)) (taken-before n place rest more last is within)
     ∙ so
 

@@ -5,7 +5,8 @@ use Rattle.std.proofs.lemmas.List.{take-append-drop}
 use Rattle.std.proofs.lemmas.Grind.{common_steps}
 use Rattle.evbuf_chain.specs.Mark.{Marks, Mark, reference_marks, ended_tickets, last_ticket, uncut_mark, uncut_marks}
 use Rattle.evbuf_chain.specs.Tickets.{outstanding, OneTicketEach, DrainKeepsTickets, PullupKeepsTickets, MoveKeepsTickets}
-use Rattle.evbuf_chain.proofs.MarkLemmas.{ended_tickets-append, ended_tickets-unmarked, ended_tickets-reference, last_ticket-more, no-ticket}
+use Rattle.evbuf_chain.proofs.MarkLemmas.{ended_tickets-append, ended_tickets-unmarked, ended_tickets-reference, last_ticket-more}
+use Rattle.evbuf_chain.proofs.MarkLemmas.{no-ticket}
 
 -- the tickets of two parts are those of the whole
 pub ended_tickets-parts : (n : ℕ) (marks : Marks)

@@ -1,11 +1,11 @@
 -- How the first bytes leave chunks.
 use Rattle.std.specs.Prelude.{◌≡◌, ℕ, ◌+◌, ◌-◌, ◌≤◌, List, ◌++◌, length, take, drop}
 use Rattle.evbuf_chain.specs.Mark.{unmarked, ended_tickets, uncut_marks}
-use Rattle.evbuf_chain.specs.Pieced.{Gathered, Owned, all_bytes, all_marks}
+use Rattle.evbuf_chain.specs.ChunkValue.{Gathered, Owned, all_bytes, all_marks}
 
 -- The first n bytes left, or all where there are fewer, and the references that end among them were released. So many of the n there
 -- were not.
-pub record Drained (old : Gathered) (released : List ℕ) (n : ℕ) (missing : ℕ) (new : Gathered) (now : List ℕ) : Type 0 where
+pub record FrontGone (old : Gathered) (released : List ℕ) (n : ℕ) (missing : ℕ) (new : Gathered) (now : List ℕ) : Type 0 where
   pub left : missing ≡ n - length old.bytes
   pub bytes : new.bytes ≡ drop n old.bytes
   pub marks : new.marks ≡ drop n old.marks

@@ -4,8 +4,8 @@ pub mod Covered
 pub mod Leaving
 pub mod Mark
 pub mod OwnView
-pub mod PieceViews
-pub mod Pieced
-pub mod PiecesView
+pub mod ChunkViews
+pub mod ChunkValue
+pub mod ChunksView
 pub mod StackView
 pub mod Tickets

@@ -1,6 +1,6 @@
 -- How the bytes behind all chunks keep what they show.
 use Rattle.std.specs.Prelude.{◌≡◌, ◌≤◌, ◌+◌, length, is_some, false}
-use Rattle.evbuf_chain.specs.Pieced.{Owned}
+use Rattle.evbuf_chain.specs.ChunkValue.{Owned}
 use Rattle.evbuf_chain.specs.declared.own.Own.TheInside.{Inside}
 
 abbrev pub owned : Inside → Owned

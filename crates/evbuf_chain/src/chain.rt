@@ -17,11 +17,11 @@ ghost use Rattle.byte_queue.specs.QueuedBytes.{most_spare};
 ghost use Rattle.evbuf_chain.specs.declared.fault.ChainFault.TheVariants.{Memory};
 ghost use Rattle.std.specs.Rc.{rc_slice_items};
 
+use crate::chunk::Chunk;
+use crate::chunks::Chunks;
 use crate::ends::{move_front, pull, put_before, put_behind, seal};
 use crate::fault::ChainFault;
 use crate::own::Own;
-use crate::piece::Piece;
-use crate::pieces::Pieces;
 use crate::queue::Queue;
 use crate::stack::make_node;
 use crate::{moves, reading};
@@ -38,7 +38,7 @@ use std::rc::RcSlice;
 #[derive(Drop)]
 pub struct Chain {
     own: Own,
-    pieces: Pieces,
+    chunks: Chunks,
     // The tickets that wait to be taken.
     ended: Queue,
 }
@@ -72,7 +72,7 @@ impl Chain {
     {
         Chain {
             own: Own::new(alloc),
-            pieces: Pieces::new(),
+            chunks: Chunks::new(),
             ended: Queue::new(),
         }
     }
@@ -91,7 +91,7 @@ impl Chain {
         ensures marked { length self.now.marks ≡ length self.now.bytes }
         ensures whole { AreWhole self.now.marks }
     {
-        self.pieces.len() + self.own.len()
+        self.chunks.len() + self.own.len()
     }
 
     /// Frees the room of a chain without a byte, and does nothing where there is one. Takes no memory; constant cost.
@@ -100,7 +100,7 @@ impl Chain {
     pub fn give_up(&mut self)
         ensures { self.new ≡ given_up self.old }
     {
-        if self.pieces.len() == 0 {
+        if self.chunks.len() == 0 {
             self.own.give_up();
         }
     }
@@ -167,12 +167,12 @@ impl Chain {
         let alloc = self.own.allocator();
         if bytes.len() == 0 {
             self.ended
-                .push_back(make_node(alloc, Piece::ended(ticket))?);
+                .push_back(make_node(alloc, Chunk::ended(ticket))?);
             return Ok(());
         }
-        let node = make_node(alloc, Piece::shared(bytes, ticket))?;
-        seal(&mut self.own, &mut self.pieces);
-        self.pieces.push_back(node);
+        let node = make_node(alloc, Chunk::shared(bytes, ticket))?;
+        seal(&mut self.own, &mut self.chunks);
+        self.chunks.push_back(node);
         Ok(())
     }
 
@@ -193,7 +193,7 @@ impl Chain {
         if bytes.is_empty() {
             return Ok(());
         }
-        put_before(&mut self.pieces, &mut self.own, bytes)?;
+        put_before(&mut self.chunks, &mut self.own, bytes)?;
         Ok(())
     }
 
@@ -205,8 +205,8 @@ impl Chain {
         ensures spare { self.old.spare ≤ self.new.spare }
         ensures most { length self.new.bytes + self.new.spare ≤ self.old.spare + 4 * length self.old.bytes }
     {
-        let _marked = self.pieces.len();
-        let left = moves::drain(&mut self.pieces, &mut self.ended, n);
+        let _marked = self.chunks.len();
+        let left = moves::drain(&mut self.chunks, &mut self.ended, n);
         self.own.drop_front(left.min(self.own.len()));
     }
 
@@ -218,8 +218,8 @@ impl Chain {
     {
         let count = self.len().saturating_sub(from).min(into.len());
         let (window, _) = into.split_at_mut(count);
-        self.pieces.copy_out(from, window);
-        reading::copy_part(self.own.as_slice(), self.pieces.len(), from, window);
+        self.chunks.copy_out(from, window);
+        reading::copy_part(self.own.as_slice(), self.chunks.len(), from, window);
         count
     }
 
@@ -229,8 +229,8 @@ impl Chain {
         ensures bytes { IfOk result (λ slices. joined slices.items ≡ take n self.now.bytes) }
     {
         let mut slices = SmallVec::new(self.own.allocator());
-        self.pieces.extents(self.own.allocator(), n, &mut slices)?;
-        let left = n.saturating_sub(self.pieces.len());
+        self.chunks.extents(self.own.allocator(), n, &mut slices)?;
+        let left = n.saturating_sub(self.chunks.len());
         if left > 0 {
             slices.push(reading::first(self.own.as_slice(), left))?;
         }
@@ -251,11 +251,11 @@ impl Chain {
         if n > self.len() {
             return Ok(None);
         }
-        if n == 0 || self.pieces.len() == 0 {
+        if n == 0 || self.chunks.len() == 0 {
             return Ok(Some(reading::first(self.own.as_slice(), n)));
         }
-        pull(&mut self.pieces, &mut self.own, &mut self.ended, n)?;
-        Ok(Some(self.pieces.first(n)))
+        pull(&mut self.chunks, &mut self.own, &mut self.ended, n)?;
+        Ok(Some(self.chunks.first(n)))
     }
 
     /// The ticket that was released first and not taken yet, or none. Takes no memory; constant cost.
@@ -292,11 +292,11 @@ impl Chain {
         let n = n.min(self.len());
         to.fits(n)?;
         move_front(
-            &mut self.pieces,
+            &mut self.chunks,
             &mut self.own,
             &mut self.ended,
             n,
-            &mut to.pieces,
+            &mut to.chunks,
             &mut to.own,
         )?;
         Ok(n)
@@ -318,9 +318,9 @@ impl Chain {
         ensures spare { self.new.spare ≡ 0 }
     {
         put_behind(
-            &mut self.pieces,
+            &mut self.chunks,
             &mut self.own,
-            &mut from.pieces,
+            &mut from.chunks,
             &mut from.own,
         );
     }

@@ -2,13 +2,13 @@
 #![tactic(auto)]
 
 mod chain;
+mod chunk;
+mod chunks;
 mod ends;
 mod fault;
 mod laws;
 mod moves;
 mod own;
-mod piece;
-mod pieces;
 mod queue;
 mod reading;
 mod stack;

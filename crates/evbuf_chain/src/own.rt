@@ -1,9 +1,9 @@
 // The bytes behind all chunks of a chain, and the node in which they become a chunk.
 ghost use Rattle.std.specs.Prelude.{◌≡◌, ◌≤◌, ◌<◌, ◌+◌, ◌-◌, ◌^◌, ◌++◌, [], length, drop, max, OnOk, OnErr, IfSome, IfNone, is_some, true};
 ghost use Rattle.evbuf_chain.specs.Mark.{unmarked};
-ghost use Rattle.evbuf_chain.specs.Pieced.{given_up_own};
+ghost use Rattle.evbuf_chain.specs.ChunkValue.{given_up_own};
 
-use crate::piece::Piece;
+use crate::chunk::Chunk;
 use crate::stack::{Node, make_node};
 use byte_queue::ByteQueue;
 use std::alloc::{AllocError, Global};
@@ -22,7 +22,7 @@ pub(crate) struct Own {
 }
 
 impl Model for Own {
-    ghost use Rattle.evbuf_chain.specs.Pieced.{Owned};
+    ghost use Rattle.evbuf_chain.specs.ChunkValue.{Owned};
 
     ghost Value = { Owned };
 
@@ -151,8 +151,8 @@ impl Own {
         ensures left { self.new.items ≡ [] }
         ensures spare { self.new.spare ≡ 0 }
         ensures none { IfNone result (self.old.items ≡ []) }
-        ensures bytes { IfSome result (λ node. node.value.piece.bytes ≡ self.old.items) }
-        ensures marks { IfSome result (λ node. node.value.piece.marks ≡ unmarked (length self.old.items)) }
+        ensures bytes { IfSome result (λ node. node.value.chunk.bytes ≡ self.old.items) }
+        ensures marks { IfSome result (λ node. node.value.chunk.marks ≡ unmarked (length self.old.items)) }
     {
         self.spare = 0;
         if self.bytes.len() == 0 {
@@ -160,7 +160,7 @@ impl Own {
         }
         let mut node = self.node.take()?;
         let alloc = self.bytes.allocator();
-        node.piece = Piece::own(replace(&mut self.bytes, ByteQueue::new(alloc)));
+        node.chunk = Chunk::own(replace(&mut self.bytes, ByteQueue::new(alloc)));
         Some(node)
     }
 }
@@ -171,7 +171,7 @@ fn have_node(node: &mut Option<Box<Node>>, alloc: Global) -> Result<(), AllocErr
     ensures kept { is_some node.old ≡ true → is_some node.new ≡ true }
 {
     if node.is_none() {
-        *node = Some(make_node(alloc, Piece::own(ByteQueue::new(alloc)))?);
+        *node = Some(make_node(alloc, Chunk::own(ByteQueue::new(alloc)))?);
     }
     Ok(())
 }

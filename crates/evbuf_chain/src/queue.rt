@@ -1,7 +1,7 @@
 // Chunks in order, of which the front ones lie on one stack and those behind, the last on top, on another. So nodes go in
 // and out at both ends without taking memory.
 ghost use Rattle.std.specs.Prelude.{◌≡◌, [], ◌∷◌, ◌++◌, IfSome, IfNone, OnOk, reverse, length, take};
-ghost use Rattle.evbuf_chain.specs.Pieced.{bytes_of, first_bytes};
+ghost use Rattle.evbuf_chain.specs.ChunkValue.{chunk_bytes, first_bytes};
 ghost use Rattle.evbuf_chain.specs.Covered.{covered};
 ghost use Rattle.evbuf_chain.specs.Buffered.{joined};
 
@@ -23,9 +23,9 @@ pub(crate) struct Queue {
 
 impl Model for Queue {
     ghost use Rattle.std.specs.Prelude.{List, ◌++◌, reverse};
-    ghost use Rattle.evbuf_chain.specs.Pieced.{Pieced};
+    ghost use Rattle.evbuf_chain.specs.ChunkValue.{ChunkValue};
 
-    ghost Value = { List Pieced };
+    ghost Value = { List ChunkValue };
 
     ghost view = { λ q. q.front ++ reverse q.back };
 }
@@ -41,13 +41,13 @@ impl Queue {
     }
 
     pub(crate) fn push_back(&mut self, node: Box<Node>)
-        ensures { self.new ≡ self.old ++ node.value.piece ∷ [] }
+        ensures { self.new ≡ self.old ++ node.value.chunk ∷ [] }
     {
         self.back.push(node);
     }
 
     pub(crate) fn push_front(&mut self, node: Box<Node>)
-        ensures { self.new ≡ node.value.piece ∷ self.old }
+        ensures { self.new ≡ node.value.chunk ∷ self.old }
     {
         self.front.push(node);
     }
@@ -55,7 +55,7 @@ impl Queue {
     pub(crate) fn pop_front(&mut self) -> Option<Box<Node>>
         ensures none { IfNone result (self.old ≡ []) }
         ensures stays { IfNone result (self.new ≡ []) }
-        ensures some { IfSome result (λ node. self.old ≡ node.value.piece ∷ self.new) }
+        ensures some { IfSome result (λ node. self.old ≡ node.value.chunk ∷ self.new) }
     {
         if let Some(node) = self.front.pop() {
             return Some(node);
@@ -66,8 +66,8 @@ impl Queue {
 
     /// Copies the bytes from a place on to a window, as far as they are there.
     pub(crate) fn copy_out(&self, end: usize, from: usize, window: &mut [u8])
-        requires { end ≡ length (bytes_of self.now) }
-        ensures { window.new ≡ covered 0 (bytes_of self.now) from window.old }
+        requires { end ≡ length (chunk_bytes self.now) }
+        ensures { window.new ≡ covered 0 (chunk_bytes self.now) from window.old }
     {
         reading::copy_forward(&self.front, from, window);
         reading::copy_backward(&self.back, end, from, window);
@@ -81,8 +81,8 @@ impl Queue {
         n: usize,
         slices: &mut SmallVec<&'a [u8], 8>,
     ) -> Result<(), AllocError>
-        requires { end ≡ length (bytes_of self.now) }
-        ensures { OnOk result (joined slices.new.items ≡ joined slices.old.items ++ take n (bytes_of self.now)) }
+        requires { end ≡ length (chunk_bytes self.now) }
+        ensures { OnOk result (joined slices.new.items ≡ joined slices.old.items ++ take n (chunk_bytes self.now)) }
     {
         reading::show_forward(&self.front, n, slices)?;
         let mut turned = SmallVec::new(alloc);
@@ -96,7 +96,7 @@ impl Queue {
         ensures { result.now ≡ first_bytes self.now }
     {
         match self.front.top() {
-            Some(node) => node.piece.as_slice(),
+            Some(node) => node.chunk.as_slice(),
             None => reading::bottom(&self.back),
         }
     }

@@ -1,6 +1,6 @@
 // How the bytes of chunks are read where they lie: those of the front stack from the front, and those of the back stack from the end.
 ghost use Rattle.std.specs.Prelude.{◌≡◌, ◌≤◌, ◌<◌, ◌+◌, ◌-◌, ◌^◌, ◌++◌, length, drop, take, reverse, [], OnOk};
-ghost use Rattle.evbuf_chain.specs.Pieced.{bytes_of, first_bytes};
+ghost use Rattle.evbuf_chain.specs.ChunkValue.{chunk_bytes, first_bytes};
 ghost use Rattle.evbuf_chain.specs.Covered.{overlaid, covered};
 ghost use Rattle.evbuf_chain.specs.Buffered.{joined};
 
@@ -30,15 +30,15 @@ pub(crate) fn copy_part(bytes: &[u8], place: usize, from: usize, window: &mut [u
 
 /// The same for the chunks of a stack, one after another. Answers how many bytes they have.
 pub(crate) fn copy_forward(stack: &Stack, from: usize, window: &mut [u8]) -> usize
-    requires { length (bytes_of stack.now) < 2 ^ 64 }
-    ensures len { result ≡ length (bytes_of stack.now) }
-    ensures copied { window.new ≡ covered 0 (bytes_of stack.now) from window.old }
+    requires { length (chunk_bytes stack.now) < 2 ^ 64 }
+    ensures len { result ≡ length (chunk_bytes stack.now) }
+    ensures copied { window.new ≡ covered 0 (chunk_bytes stack.now) from window.old }
 {
     let mut at = stack;
     let mut place = 0usize;
     while let Some(node) = at.top() {
-        copy_part(node.piece.as_slice(), place, from, window);
-        place += node.piece.len();
+        copy_part(node.chunk.as_slice(), place, from, window);
+        place += node.chunk.len();
         at = &node.below;
     }
     place
@@ -46,14 +46,15 @@ pub(crate) fn copy_forward(stack: &Stack, from: usize, window: &mut [u8]) -> usi
 
 /// The same for those of a stack of which the top is the last and ends at a place.
 pub(crate) fn copy_backward(stack: &Stack, end: usize, from: usize, window: &mut [u8])
-    requires { length (bytes_of (reverse stack.now)) ≤ end }
-    ensures copied { window.new ≡ covered (end - length (bytes_of (reverse stack.now))) (bytes_of (reverse stack.now)) from window.old }
+    requires { length (chunk_bytes (reverse stack.now)) ≤ end }
+    ensures copied { window.new
+        ≡ covered (end - length (chunk_bytes (reverse stack.now))) (chunk_bytes (reverse stack.now)) from window.old }
 {
     let mut at = stack;
     let mut place = end;
     while let Some(node) = at.top() {
-        place -= node.piece.len();
-        copy_part(node.piece.as_slice(), place, from, window);
+        place -= node.chunk.len();
+        copy_part(node.chunk.as_slice(), place, from, window);
         at = &node.below;
     }
 }
@@ -71,7 +72,7 @@ pub(crate) fn show_forward<'a>(
     n: usize,
     slices: &mut SmallVec<&'a [u8], 8>,
 ) -> Result<(), AllocError>
-    ensures { OnOk result (joined slices.new.items ≡ joined slices.old.items ++ take n (bytes_of stack.now)) }
+    ensures { OnOk result (joined slices.new.items ≡ joined slices.old.items ++ take n (chunk_bytes stack.now)) }
 {
     let mut at = stack;
     let mut left = n;
@@ -79,7 +80,7 @@ pub(crate) fn show_forward<'a>(
         let Some(node) = at.top() else {
             break;
         };
-        let bytes = first(node.piece.as_slice(), left);
+        let bytes = first(node.chunk.as_slice(), left);
         slices.push(bytes)?;
         left -= bytes.len();
         at = &node.below;
@@ -94,17 +95,17 @@ pub(crate) fn show_backward<'a>(
     n: usize,
     turned: &mut SmallVec<&'a [u8], 8>,
 ) -> Result<(), AllocError>
-    requires within { length (bytes_of (reverse stack.now)) ≤ end }
+    requires within { length (chunk_bytes (reverse stack.now)) ≤ end }
     requires empty { turned.old.items ≡ [] }
     ensures { OnOk result (joined (reverse turned.new.items)
-        ≡ take (n - (end - length (bytes_of (reverse stack.now)))) (bytes_of (reverse stack.now))) }
+        ≡ take (n - (end - length (chunk_bytes (reverse stack.now)))) (chunk_bytes (reverse stack.now))) }
 {
     let mut at = stack;
     let mut place = end;
     while let Some(node) = at.top() {
-        place -= node.piece.len();
+        place -= node.chunk.len();
         if place < n {
-            turned.push(first(node.piece.as_slice(), n - place))?;
+            turned.push(first(node.chunk.as_slice(), n - place))?;
         }
         at = &node.below;
     }
@@ -131,7 +132,7 @@ pub(crate) fn bottom(stack: &Stack) -> &[u8]
     let mut at = stack;
     let mut lowest: &[u8] = &[];
     while let Some(node) = at.top() {
-        lowest = node.piece.as_slice();
+        lowest = node.chunk.as_slice();
         at = &node.below;
     }
     lowest

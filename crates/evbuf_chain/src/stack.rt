@@ -1,7 +1,7 @@
 // Chunks, the first on top.
 ghost use Rattle.std.specs.Prelude.{◌≡◌, [], ◌∷◌, IfSome, IfNone, IfOk};
 
-use crate::piece::Piece;
+use crate::chunk::Chunk;
 use std::alloc::{AllocError, Global};
 use std::marker::Model;
 use std::mem::replace;
@@ -16,15 +16,15 @@ pub(crate) struct Stack {
 #[cycle(stack)]
 #[derive(Drop)]
 pub(crate) struct Node {
-    pub(crate) piece: Piece,
+    pub(crate) chunk: Chunk,
     pub(crate) below: Stack,
 }
 
 impl Model for Stack {
     ghost use Rattle.std.specs.Prelude.{List, length};
-    ghost use Rattle.evbuf_chain.specs.Pieced.{Pieced};
+    ghost use Rattle.evbuf_chain.specs.ChunkValue.{ChunkValue};
 
-    ghost Value = { List Pieced };
+    ghost Value = { List ChunkValue };
 
     ghost use Rattle.evbuf_chain.specs.StackView.{stacked};
 
@@ -44,8 +44,8 @@ impl Drop for Stack {
             match top {
                 None => return,
                 Some(node) => {
-                    let Node { piece, below } = Box::into_inner(node);
-                    drop(piece);
+                    let Node { chunk, below } = Box::into_inner(node);
+                    drop(chunk);
                     self = below;
                 }
             }
@@ -63,14 +63,14 @@ impl Stack {
     /// The node on top.
     pub(crate) fn top(&self) -> Option<&Node>
         ensures none { IfNone result (self.now ≡ []) }
-        ensures some { IfSome result (λ node. self.now ≡ node.now.piece ∷ node.now.below) }
+        ensures some { IfSome result (λ node. self.now ≡ node.now.chunk ∷ node.now.below) }
     {
         self.top.as_deref()
     }
 
     /// Puts a node on top. What was below it is let go.
     pub(crate) fn push(&mut self, mut node: Box<Node>)
-        ensures { self.new ≡ node.value.piece ∷ self.old }
+        ensures { self.new ≡ node.value.chunk ∷ self.old }
     {
         node.below = replace(self, Stack::new());
         self.top = Some(node);
@@ -80,7 +80,7 @@ impl Stack {
     pub(crate) fn pop(&mut self) -> Option<Box<Node>>
         ensures none { IfNone result (self.old ≡ []) }
         ensures stays { IfNone result (self.new ≡ []) }
-        ensures some { IfSome result (λ node. self.old ≡ node.value.piece ∷ self.new) }
+        ensures some { IfSome result (λ node. self.old ≡ node.value.chunk ∷ self.new) }
     {
         let mut node = self.top.take()?;
         *self = replace(&mut node.below, Stack::new());
@@ -89,13 +89,13 @@ impl Stack {
 }
 
 /// A node of its own.
-pub(crate) fn make_node(alloc: Global, piece: Piece) -> Result<Box<Node>, AllocError>
-    ensures { IfOk result (λ node. node.value.piece ≡ piece) }
+pub(crate) fn make_node(alloc: Global, chunk: Chunk) -> Result<Box<Node>, AllocError>
+    ensures { IfOk result (λ node. node.value.chunk ≡ chunk) }
 {
     Ok(Box::new(
         alloc,
         Node {
-            piece,
+            chunk,
             below: Stack::new(),
         },
     )?)

@@ -1,5 +1,6 @@
-use Rattle.std.proofs.Common.{◌≡◌, ◌<◌, ◌≤◌, ◌-◌, ◌++◌, ℕ, false, true, length, drop, ap, sym, ◌∙◌, refl, subst, arith, length-append, length-drop}
-use Rattle.evbuf_chain.specs.Pieced.{tickets_of}
+use Rattle.std.proofs.Common.{◌≡◌, ◌<◌, ◌≤◌, ◌-◌, ◌++◌, ℕ, false, true, length, drop, ap, sym, ◌∙◌, refl, subst, arith, length-append}
+use Rattle.std.proofs.Common.{length-drop}
+use Rattle.evbuf_chain.specs.ChunkValue.{tickets_of}
 use Rattle.evbuf_chain.specs.declared.stack.Node.{Node}
 use Rattle.evbuf_chain.proofs.DrainLemmas.{Drains, Drains-whole, Drains-cut}
 use Rattle.evbuf_chain.proofs.moves.drain.Goals as goal
@@ -9,41 +10,42 @@ push_front-requires c =
     omega (
       arith,
       ap length c.drop_front.ensures.bytes,
-      length-drop c.loop-left.left c.deref_mut.result.now.piece.bytes,
-      ap (λ node. length node.piece.bytes) c.deref_mut.ensures.value,
+      length-drop c.loop-left.left c.deref_mut.result.now.chunk.bytes,
+      ap (λ node. length node.chunk.bytes) c.deref_mut.ensures.value,
       ap length c.in-Some.ensures.bytes,
-      length-append c.in-Some.node.value.piece.bytes c.pop_front.new.self.bytes,
+      length-append c.in-Some.node.value.chunk.bytes c.pop_front.new.self.bytes,
       c.loop-left.invariant.size,
       c.len-fits.ensures.fits,
     )
 
 pub returns-then-is_cut : goal.returns-then-is_cut
 returns-then-is_cut c =
-    Drains-cut c.args.pieces.now (tickets_of c.args.ended.now) c.args.n c.loop-left.left c.loop-left.pieces (tickets_of c.loop-left.ended)
-    c.deref.result.now.piece.bytes c.deref.result.now.piece.marks c.drop_front.new.self.bytes c.drop_front.new.self.marks
+    Drains-cut c.args.chunks.now (tickets_of c.args.ended.now) c.args.n c.loop-left.left c.loop-left.chunks (tickets_of c.loop-left.ended)
+    c.deref.result.now.chunk.bytes c.deref.result.now.chunk.marks c.drop_front.new.self.bytes c.drop_front.new.self.marks
     c.pop_front.new.self c.push_front.new.self c.loop-left.invariant
-    (c.in-Some.ensures.bytes ∙ ap (λ node. node.piece.bytes ++ c.pop_front.new.self.bytes) (sym c.deref.ensures))
-    (c.in-Some.ensures.marks ∙ ap (λ node. node.piece.marks ++ c.pop_front.new.self.marks) (sym c.deref.ensures))
+    (c.in-Some.ensures.bytes ∙ ap (λ node. node.chunk.bytes ++ c.pop_front.new.self.bytes) (sym c.deref.ensures))
+    (c.in-Some.ensures.marks ∙ ap (λ node. node.chunk.marks ++ c.pop_front.new.self.marks) (sym c.deref.ensures))
     c.is_cut.ensures.marked
     (c.if-is_cut.ensures.cut.0 refl)
-    (c.drop_front.ensures.bytes ∙ ap (λ node. drop c.loop-left.left node.piece.bytes) (c.deref_mut.ensures.value ∙ sym c.deref.ensures))
-    (c.drop_front.ensures.marks ∙ ap (λ node. drop c.loop-left.left node.piece.marks) (c.deref_mut.ensures.value ∙ sym c.deref.ensures))
+    (c.drop_front.ensures.bytes ∙ ap (λ node. drop c.loop-left.left node.chunk.bytes) (c.deref_mut.ensures.value ∙ sym c.deref.ensures))
+    (c.drop_front.ensures.marks ∙ ap (λ node. drop c.loop-left.left node.chunk.marks) (c.deref_mut.ensures.value ∙ sym c.deref.ensures))
     (c.is_cut.ensures.no_end (c.if-is_cut.ensures.cut.0 refl))
     c.push_front.ensures.bytes
     c.push_front.ensures.marks
 
 pub loop-left-preserved : goal.loop-left-preserved
 loop-left-preserved c =
-    let p = c.in-Some.node.value.piece in
-    let M : Node → Type 0 = λ node. length node.piece.marks ≡ length node.piece.bytes in
+    let p = c.in-Some.node.value.chunk in
+    let M : Node → Type 0 = λ node. length node.chunk.marks ≡ length node.chunk.bytes in
     let marked : length p.marks ≡ length p.bytes = subst M c.deref.ensures c.is_cut.ensures.marked in
-    let long : (c.loop-left.left < length c.deref.result.now.piece.bytes) → ⊥ =
+    let long : (c.loop-left.left < length c.deref.result.now.chunk.bytes) → ⊥ =
     λ cut. let no : false ≡ true = c.if-is_cut.ensures.cut.1 cut in cc in
-    let within : length p.bytes ≤ c.loop-left.left = omega (arith, long, ap (λ node. length node.piece.bytes) c.deref.ensures) in
-    let k : c.len-left.result ≡ length p.bytes = c.len-left.ensures.len ∙ ap (λ node. length node.piece.bytes) c.deref-in-loop-left.ensures in
-    let P : ℕ → Type 0 = λ j. Drains c.args.pieces.now (tickets_of c.args.ended.now) c.args.n (c.loop-left.left - j) c.pop_front.new.self
+    let within : length p.bytes ≤ c.loop-left.left = omega (arith, long, ap (λ node. length node.chunk.bytes) c.deref.ensures) in
+    let k : c.len-left.result ≡ length p.bytes = c.len-left.ensures.len
+    ∙ ap (λ node. length node.chunk.bytes) c.deref-in-loop-left.ensures in
+    let P : ℕ → Type 0 = λ j. Drains c.args.chunks.now (tickets_of c.args.ended.now) c.args.n (c.loop-left.left - j) c.pop_front.new.self
     (tickets_of c.release.new.ended) in
     subst P (sym k)
-    (Drains-whole c.args.pieces.now (tickets_of c.args.ended.now) c.args.n c.loop-left.left c.loop-left.pieces
+    (Drains-whole c.args.chunks.now (tickets_of c.args.ended.now) c.args.n c.loop-left.left c.loop-left.chunks
     (tickets_of c.loop-left.ended) p.bytes p.marks c.pop_front.new.self (tickets_of c.release.new.ended) c.loop-left.invariant
     c.in-Some.ensures.bytes c.in-Some.ensures.marks marked within c.release.ensures)

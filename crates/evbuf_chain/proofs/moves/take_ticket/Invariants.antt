@@ -1,5 +1,5 @@
 use Rattle.std.proofs.Common.{◌≡◌, length}
-use Rattle.evbuf_chain.specs.Pieced.{tickets_of}
+use Rattle.evbuf_chain.specs.ChunkValue.{tickets_of}
 use Rattle.evbuf_chain.proofs.moves.take_ticket.Given as goal
 
 abbrev pub invariant-loop-node : goal.invariant-loop-node

@@ -1,5 +1,5 @@
 use Rattle.std.proofs.Common.{ap, sym, ◌∙◌}
-use Rattle.evbuf_chain.proofs.PieceLemmas.{bottom_bytes, bottom_bytes-first}
+use Rattle.evbuf_chain.proofs.ChunkLemmas.{bottom_bytes, bottom_bytes-first}
 use Rattle.evbuf_chain.proofs.reading.bottom.Goals as goal
 
 pub returns : goal.returns

@@ -1,5 +1,5 @@
 use Rattle.std.proofs.Common.{◌≡◌, length, []}
-use Rattle.evbuf_chain.proofs.PieceLemmas.{bottom_bytes}
+use Rattle.evbuf_chain.proofs.ChunkLemmas.{bottom_bytes}
 use Rattle.evbuf_chain.proofs.reading.bottom.Given as goal
 
 abbrev pub invariant-loop-node : goal.invariant-loop-node

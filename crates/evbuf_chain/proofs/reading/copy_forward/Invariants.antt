@@ -1,10 +1,10 @@
 use Rattle.std.proofs.Common.{length}
-use Rattle.evbuf_chain.specs.Pieced.{bytes_of}
+use Rattle.evbuf_chain.specs.ChunkValue.{chunk_bytes}
 use Rattle.evbuf_chain.proofs.CoveredLemmas.{Forward}
 use Rattle.evbuf_chain.proofs.reading.copy_forward.Given as goal
 
 abbrev pub invariant-loop-node : goal.invariant-loop-node
-invariant-loop-node l = Forward (bytes_of l.fn.stack) l.place (bytes_of l.at) l.from l.fn.window l.window
+invariant-loop-node l = Forward (chunk_bytes l.fn.stack) l.place (chunk_bytes l.at) l.from l.fn.window l.window
 
 abbrev pub decreases-loop-node : goal.decreases-loop-node
 decreases-loop-node l = length l.at

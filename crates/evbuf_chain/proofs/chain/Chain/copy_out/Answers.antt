@@ -6,7 +6,7 @@ use Rattle.evbuf_chain.proofs.chain.Chain.copy_out.Goals as goal
 
 pub returns-clause-copied : goal.returns-clause-copied
 returns-clause-copied c =
-    let chunks = c.self.inside.pieces.bytes in
+    let chunks = c.self.inside.chunks.bytes in
     let own = c.self.inside.own.items in
     let window = c.split_at_mut-window.result.0.now in
     let from = c.args.from in

@@ -7,7 +7,7 @@ use Rattle.evbuf_chain.proofs.chain.Chain.extents.Goals.{then-left-gt0+in_ok-pus
 
 pub returns-clause-bytes : goal.returns-clause-bytes
 returns-clause-bytes c =
-    let chunks = c.self.inside.pieces.bytes in
+    let chunks = c.self.inside.chunks.bytes in
     let own = c.self.inside.own.items in
     let n = c.args.n in
     let shown : joined c.extents.new.slices.items ≡ take n chunks =

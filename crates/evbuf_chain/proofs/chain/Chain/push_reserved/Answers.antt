@@ -5,5 +5,5 @@ use Rattle.evbuf_chain.proofs.chain.Chain.push_reserved.Goals as goal
 
 pub returns-clause-marks : goal.returns-clause-marks
 returns-clause-marks c =
-    marks-behind c.self.inside.pieces.marks c.self.inside.own.items c.push.new.self.items c.args.bytes.now c.push.ensures.items
+    marks-behind c.self.inside.chunks.marks c.self.inside.own.items c.push.new.self.items c.args.bytes.now c.push.ensures.items
     ∙ ap (λ v. v.marks ++ unmarked (length c.args.bytes.now)) c.self.view_is

@@ -1,16 +1,16 @@
 use Rattle.std.proofs.Common.{◌≡◌, ◌+◌, ◌-◌, ◌++◌, reverse, length, ap, sym, ◌∙◌, arith, length-append}
 use Rattle.std.proofs.lemmas.Grind.{flat_map-append}
-use Rattle.evbuf_chain.specs.Pieced.{bytes_of}
+use Rattle.evbuf_chain.specs.ChunkValue.{chunk_bytes}
 use Rattle.evbuf_chain.specs.Covered.{covered}
 use Rattle.evbuf_chain.proofs.CoveredLemmas.{covered-then}
 use Rattle.evbuf_chain.proofs.queue.Queue.copy_out.Goals as goal
 
 pub returns : goal.returns
 returns c =
-    let front = bytes_of c.self.inside.front in
-    let back = bytes_of (reverse c.self.inside.back) in
-    let all : front ++ back ≡ bytes_of c.args.self.now =
-    sym (flat_map-append (λ p. p.bytes) c.self.inside.front (reverse c.self.inside.back)) ∙ ap bytes_of c.self.view_is in
+    let front = chunk_bytes c.self.inside.front in
+    let back = chunk_bytes (reverse c.self.inside.back) in
+    let all : front ++ back ≡ chunk_bytes c.args.self.now =
+    sym (flat_map-append (λ p. p.bytes) c.self.inside.front (reverse c.self.inside.back)) ∙ ap chunk_bytes c.self.view_is in
     let start : c.args.end - length back ≡ 0 + length front = omega (arith, c.requires, ap length all, length-append front back) in
     c.copy_backward.ensures.copied
     ∙ ap (λ k. covered k back c.args.from c.copy_forward.new.window) start
