@@ -292,7 +292,10 @@ fn a_long_chain_of_references_is_let_go(rt: HostRuntime) -> Result<(), Fail> {
     drop(chain);
     let left = RcSlice::strong_count(&slice);
     drop(slice);
-    assert_eq!(rt; (came, length, read, last[0], left), (Ok(()), 2_000_000, 1, b'b', 1));
+    assert_eq!(rt;
+        (came, length, read, last[0], left),
+        (Ok(()), 2_000_000, 1, b'b', 1)
+    );
     Ok(())
 }
 

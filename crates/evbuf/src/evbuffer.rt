@@ -220,7 +220,7 @@ impl Evbuffer {
     }
 
     /// Copies the bytes from a place on, as many as are there and fit, and answers how many. Takes no memory; linear in
-    /// what it copies.
+    /// what it copies and in the chunks.
     ///
     /// Libevent: event2/buffer.h, `evbuffer_copyout_from`; "Evbuffers".
     /// Differs: a frozen front does not refuse it.
@@ -269,8 +269,8 @@ impl Evbuffer {
     }
 
     /// Moves the first n bytes, or all where there are fewer, to the end of another buffer, and answers how many. Where
-    /// a reference is cut its front part is copied, and the reference stays with the rest. Both tell their callbacks.
-    /// Takes memory where there is less room; linear in what it moves, over many calls.
+    /// a reference is cut its front part is copied, and the reference stays with the rest. Whole chunks move without being
+    /// copied. Both tell their callbacks. Takes memory for what is copied; linear in the chunks that move and in that.
     ///
     /// Libevent: event2/buffer.h, `evbuffer_remove_buffer`; "Evbuffers".
     pub fn remove_buffer(&mut self, to: &mut Evbuffer, n: usize) -> Result<usize, BufFault>
@@ -294,7 +294,7 @@ impl Evbuffer {
 
     /// Makes the first n bytes contiguous, in the buffer's own memory, and shows them; none where n is above the length.
     /// Every referenced byte among them is copied, so that the references that end there are released. No frozen end
-    /// refuses it. Linear in the references that end among these bytes, which lie in one piece already.
+    /// refuses it. Takes memory; linear in n, and constant where the first chunk has so many in memory of its own.
     ///
     /// Libevent: event2/buffer.h, `evbuffer_pullup`; "Evbuffers", "Rearranging the internal layout of an evbuffer".
     /// Differs: referenced bytes are copied also where they are contiguous already.

@@ -106,7 +106,7 @@ impl Chain {
     }
 
     /// Makes room for at least n more bytes at the end, and for no more than n and seven times the length where there was
-    /// less. Takes memory then; constant cost where there is room, else linear in the length.
+    /// less. Takes memory then; constant cost where there is room, else linear in the bytes behind the last chunk.
     pub fn reserve(&mut self, n: usize) -> Result<(), ChainFault>
         ensures answer { AnswersOr Memory result None }
         ensures bytes { self.new.bytes ≡ self.old.bytes }
@@ -151,8 +151,8 @@ impl Chain {
     }
 
     /// Adds a reference to bytes at the end, with the ticket by which its end is told. One of no bytes is released at
-    /// once. Refused as `push_copy`. What is spare afterwards is left open, and so is whether the bytes are shared. Takes
-    /// memory; linear in the bytes, which are copied.
+    /// once. Refused as `push_copy`. What is spare afterwards is left open, and so is whether the bytes are shared: they are,
+    /// and none is copied. Takes memory for a node; constant cost.
     ///
     /// Libevent: event2/buffer.h, `evbuffer_add_reference`; "Evbuffers".
     /// Differs: a reference of no bytes does not wait for the next change.
@@ -211,7 +211,7 @@ impl Chain {
     }
 
     /// Copies the bytes from a place on, as many as are there and fit, and answers how many. Takes no memory; linear in
-    /// what it copies.
+    /// what it copies and in the chunks.
     pub fn copy_out(&self, from: usize, into: &mut [u8]) -> usize
         ensures count { result ≡ min (length into.old) (length self.now.bytes - from) }
         ensures copied { into.new ≡ take result (drop from self.now.bytes) ++ drop result into.old }
@@ -223,7 +223,8 @@ impl Chain {
         count
     }
 
-    /// The first n bytes, or all where there are fewer, as slices that joined are these bytes. Constant cost.
+    /// The first n bytes, or all where there are fewer, as slices that joined are these bytes. Takes memory for more than
+    /// eight; linear in the chunks.
     pub fn extents(&self, n: usize) -> Result<SmallVec<&[u8], 8>, ChainFault>
         ensures answer { AnswersOr Memory result None }
         ensures bytes { IfOk result (λ slices. joined slices.items ≡ take n self.now.bytes) }
@@ -238,8 +239,8 @@ impl Chain {
     }
 
     /// Makes the first n bytes contiguous, in the chain's own memory, and shows them; none where n is above the length.
-    /// Every referenced byte among them is copied, so that the references that end there are released. Linear in the
-    /// references that end among these bytes, which lie in one piece already.
+    /// Every referenced byte among them is copied, so that the references that end there are released. Takes memory; linear
+    /// in n, and constant where the first chunk has so many in memory of its own.
     ///
     /// Libevent: event2/buffer.h, `evbuffer_pullup`; "Evbuffers", "Rearranging the internal layout of an evbuffer".
     /// Differs: referenced bytes are copied also where they are contiguous already.
@@ -271,8 +272,8 @@ impl Chain {
 
     /// Moves the first n bytes, or all where there are fewer, to the end of another chain, and answers how many. Where a
     /// reference is cut, its front part is copied and the reference stays with the rest. Where the other chain's length
-    /// would not fit a usize it is refused as Spent, before want of memory. Takes memory where there is less room; linear
-    /// in what it moves, over many calls.
+    /// would not fit a usize it is refused as Spent, before want of memory. Whole chunks move without being copied. Takes
+    /// memory for what is copied, of the chunk that is cut; linear in the chunks that move and in that.
     ///
     /// Libevent: event2/buffer.h, `evbuffer_remove_buffer`; "Evbuffers".
     pub fn split_front(&mut self, n: usize, to: &mut Chain) -> Result<usize, ChainFault>
