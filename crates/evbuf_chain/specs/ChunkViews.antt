@@ -7,11 +7,11 @@ use Rattle.evbuf_chain.specs.declared.chunk.Held.{Held}
 use Rattle.evbuf_chain.specs.declared.chunk.Held.TheVariants.{Own, Shared, Ended}
 
 -- own bytes have no mark, and the marks of a reference run down to 0
-abbrev pub chunkd : Held → ChunkValue
-chunkd (Own own) = record { bytes = own.items; marks = unmarked (length own.items); ended = [] }
-chunkd (Shared r) = record {
+abbrev pub chunk_value : Held → ChunkValue
+chunk_value (Own own) = record { bytes = own.items; marks = unmarked (length own.items); ended = [] }
+chunk_value (Shared r) = record {
   bytes = drop r.from (rc_slice_items r.bytes);
   marks = reference_marks r.ticket (length (rc_slice_items r.bytes) - r.from);
   ended = [];
 }
-chunkd (Ended ticket) = record { bytes = []; marks = []; ended = ticket ∷ [] }
+chunk_value (Ended ticket) = record { bytes = []; marks = []; ended = ticket ∷ [] }

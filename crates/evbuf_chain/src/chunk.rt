@@ -38,9 +38,9 @@ impl Model for Chunk {
 
     ghost Value = { ChunkValue };
 
-    ghost use Rattle.evbuf_chain.specs.ChunkViews.{chunkd};
+    ghost use Rattle.evbuf_chain.specs.ChunkViews.{chunk_value};
 
-    ghost view = { λ p. chunkd p.held };
+    ghost view = { λ p. chunk_value p.held };
 }
 
 impl Chunk {
