@@ -43,7 +43,8 @@ chunk_value-no_end (Shared r) n cut =
     (omega (arith, cut, length-drop r.from (rc_slice_items r.bytes)))
 chunk_value-no_end (Ended ticket) n cut = absurd (omega (arith, cut))
 
-pub chunk_value-no_mark : (held : Held) (n : ℕ) → n < length (chunk_value held).bytes → uncut_marks (take n (chunk_value held).marks) ≡ unmarked n
+pub chunk_value-no_mark : (held : Held) (n : ℕ) → n < length (chunk_value held).bytes
+    → uncut_marks (take n (chunk_value held).marks) ≡ unmarked n
 chunk_value-no_mark (Own own) n cut =
     ap uncut_marks (take-replicate n (length own.items) None (omega (arith, cut))) ∙ uncut_marks-unmarked-all n
 chunk_value-no_mark (Shared r) n cut =
@@ -62,7 +63,8 @@ shared-last held r is =
     ∙ ended_tickets-reference r.ticket n [] (omega (arith, r.some))
 
 -- a chunk without its first bytes
-pub own-dropped : (own less : Queued) (n : ℕ) → less.items ≡ drop n own.items → (chunk_value (Own less)).marks ≡ drop n (chunk_value (Own own)).marks
+pub own-dropped : (own less : Queued) (n : ℕ) → less.items ≡ drop n own.items
+    → (chunk_value (Own less)).marks ≡ drop n (chunk_value (Own own)).marks
 own-dropped own less n is =
     ap (λ bs. unmarked (length bs)) is
     ∙ ap unmarked (length-drop n own.items)
