@@ -99,11 +99,16 @@ fn play_step(first: &mut Chain, second: &mut Chain, step: Step) -> Result<Answer
         First(act) => play(first, act),
         Second(act) => play(second, act),
         SplitFront(n) => Ok(Count(first.split_front(n, second)? as u64)),
-        AppendAll => {
-            first.append_all(second);
-            Ok(Done)
-        }
+        AppendAll => append_all(first, second),
     }
+}
+
+fn append_all(first: &mut Chain, second: &mut Chain) -> Result<Answer, ChainFault> {
+    if second.len() > usize::MAX - first.len() {
+        return Err(ChainFault::Spent);
+    }
+    first.append_all(second);
+    Ok(Done)
 }
 
 /// The place of the first row that a chain answers otherwise.
