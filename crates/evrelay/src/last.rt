@@ -48,7 +48,7 @@ impl LastEntries {
             swap(&mut self.older, &mut self.newer);
             self.newer.clear();
         }
-        self.newer.push(entry).unwrap();
+        self.newer.push_reserved(entry);
     }
 
     /// The wants of a table. Where they are 64 or more only the last are looked at.

@@ -8,7 +8,7 @@ ghost use Rattle.number_set.specs.Words.{AreTops, has_number, is_set};
 
 use crate::bits::{WORD, highest_below, lowest_from, without_lowest};
 use crate::words;
-use crate::words::{either_at, end_of_either, fill_words, put_number};
+use crate::words::{either_at, end_of_either, fill_words, has_number, put_number};
 use std::alloc::{AllocError, Global};
 
 /// Words, and the places of those that aren't 0, as words of their own.
@@ -33,6 +33,18 @@ impl Levels {
 
     /// Puts a number into the words, or takes it out of them.
     pub(crate) fn put(&mut self, number: usize, member: bool)
+        requires { number < 64 * vec_len self.old.words }
+        ensures len { vec_len self.new.words ≡ vec_len self.old.words }
+        ensures numbers { (n : ℕ) → has_number self.new.words.items n
+            ≡ (if n == number then member else has_number self.old.words.items n) }
+    {
+        if has_number(&self.words, number) != member {
+            self.change(number, member);
+        }
+    }
+
+    /// The same, at the cost of a write to the words and one to the places.
+    fn change(&mut self, number: usize, member: bool)
         requires { number < 64 * vec_len self.old.words }
         ensures len { vec_len self.new.words ≡ vec_len self.old.words }
         ensures numbers { (n : ℕ) → has_number self.new.words.items n

@@ -72,6 +72,9 @@ impl Ctl {
         requires { side.link < self.now.state.plain.opened }
         ensures { result ≡ within_rates self.now.state side dir count }
     {
+        if count == 0 {
+            return 0;
+        }
         let own = at_most(self.sides.allowance(side, dir, self.time), count);
         at_most(self.groups.share(side.number() as u64, dir), own)
     }

@@ -25,6 +25,9 @@ pub(crate) fn next_link(set: &NumberSet, from: u32, opened: u32) -> Option<u32>
     ensures { MatchOption result (IsUntold set.now from opened)
         (λ link. (from ≤ link) × (link < opened) × (set.now.has link ≡ true) × IsUntold set.now from link) }
 {
+    if from >= opened {
+        return None;
+    }
     let link = set.next(from as usize)?;
     if link < opened as usize {
         Some(link as u32)

@@ -1,7 +1,7 @@
 use Rattle.std.proofs.Common.{sym, arith, ◌/◌}
 use Rattle.std.proofs.lemmas.List.{get_or_read}
 use Rattle.number_set.proofs.TopLemmas.{put_tops}
-use Rattle.number_set.proofs.levels.Levels.put.Goals as goal
+use Rattle.number_set.proofs.levels.Levels.change.Goals as goal
 
 pub invariant_of-self-clause-tops_are : goal.invariant_of-self-clause-tops_are
 invariant_of-self-clause-tops_are c =
