@@ -12,7 +12,7 @@ use std::alloc::{AllocError, Global};
 use std::marker::Model;
 
 /// A set of numbers below a length that grows. It takes one bit for each number below the length,
-/// and to go from member to member skips 64 absent numbers at a time.
+/// and to go from member to member skips 4,096 absent numbers at a time.
 ///
 /// Own.
 #[derive(Drop)]
