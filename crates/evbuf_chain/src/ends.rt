@@ -124,8 +124,30 @@ fn seal_front(block: &mut Own, chunks: &mut Chunks)
     }
 }
 
-/// Moves the first n bytes behind those of another chain: whole chunks as they are, and the front of one that is cut as a copy. After
-/// a refusal nothing has changed.
+// Copies the first n bytes behind own bytes of another chain, where nothing is spare then. After a refusal nothing has changed.
+fn copy_front(
+    chunks: &mut Chunks,
+    own: &mut Own,
+    ended: &mut Queue,
+    n: usize,
+    into: &mut Own,
+) -> Result<(), AllocError>
+    requires { n ≤ length (all_bytes chunks.old own.old) }
+    ensures copied { OnOk result
+        (Takes chunks.old own.old (tickets_of ended.old) (record into.old { spare = n }) n chunks.new own.new (tickets_of ended.new) into.new) }
+    ensures err { OnErr result (chunks.new ≡ chunks.old) }
+    ensures err_own { OnErr result (own.new ≡ own.old) }
+    ensures err_ended { OnErr result (tickets_of ended.new ≡ tickets_of ended.old) }
+    ensures err_into { OnErr result (into.new ≡ into.old) }
+{
+    into.reserve(n)?;
+    take(chunks, own, ended, n, into);
+    into.forget_spare();
+    Ok(())
+}
+
+/// Moves the first n bytes behind those of another chain: whole chunks as they are, and the front of one that is cut as a copy, behind
+/// the own bytes there if no chunk comes between. After a refusal nothing has changed.
 pub(crate) fn move_front(
     chunks: &mut Chunks,
     own: &mut Own,
@@ -156,6 +178,10 @@ pub(crate) fn move_front(
     let mut whole = Chunks::new();
     let left = moves::move_whole(chunks, &mut whole, n);
     let _rest = chunks.len();
+    if whole.len() == 0 {
+        copy_front(chunks, own, ended, left, to_own)?;
+        return Ok(());
+    }
     let mut cut = Own::new(own.allocator());
     if cut.reserve(left).is_err() {
         whole.append(chunks);

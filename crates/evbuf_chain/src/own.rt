@@ -124,6 +124,9 @@ impl Own {
         ensures items { self.new.items ≡ drop n self.old.items }
         ensures spare { self.new.spare ≡ self.old.spare }
     {
+        if n == 0 {
+            return;
+        }
         self.bytes.drop_front(n);
     }
 

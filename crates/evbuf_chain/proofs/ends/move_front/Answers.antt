@@ -1,6 +1,6 @@
 use Rattle.std.proofs.Common.{◌≡◌, ◌≤◌, ◌++◌, length, take, ap, ◌∙◌, arith, append-nil, length-append, length-take}
 use Rattle.evbuf_chain.specs.ChunkValue.{tickets_of, all_bytes, all_marks}
-use Rattle.evbuf_chain.proofs.EndLemmas.{front-bytes, front-marks, front-taken, front-moved, ended-own}
+use Rattle.evbuf_chain.proofs.EndLemmas.{front-bytes, front-marks, front-taken, front-moved, front-copied, ended-own}
 use Rattle.evbuf_chain.proofs.ends.move_front.Goals as goal
 
 pub take-requires-clause-there : goal.take-requires-clause-there
@@ -77,6 +77,23 @@ returns-clause-to_marks c =
 pub returns-clause-ended : goal.returns-clause-ended
 returns-clause-ended c =
     c.take.ensures.ended
+    ∙ ap (λ ts. tickets_of c.args.ended.now ++ ts)
+    (ended-own c.move_whole-left.result c.move_whole-left.new.chunks.marks (length c.args.own.now.items) ∙ c.move_whole-left.ensures.no_end)
+    ∙ append-nil (tickets_of c.args.ended.now)
+
+pub returns-then-len-eq0-clause-to_marks : goal.returns-then-len-eq0-clause-to_marks
+returns-then-len-eq0-clause-to_marks c =
+    let left = c.move_whole-left.result in
+    let rest = c.move_whole-left.new.chunks in
+    let moved = c.move_whole-left.new.moved in
+    let still : length moved.marks ≡ 0 = omega (arith, c.len.ensures.marked, c.len.ensures.len, c.if-len-eq0.true) in
+    front-copied c.args.chunks.now c.new-whole.result rest moved c.args.to.now c.args.own.now c.args.to_own.now c.copy_front.new.into
+    c.args.n left c.move_whole-left.ensures.moves c.new-whole.ensures.marks still c.move_whole-left.ensures.no_mark
+    c.len-marked.ensures.marked c.len-marked.ensures.whole c.requires.there c.in_ok-copy_front.ensures.copied.items
+
+pub returns-then-len-eq0-clause-ended : goal.returns-then-len-eq0-clause-ended
+returns-then-len-eq0-clause-ended c =
+    c.in_ok-copy_front.ensures.copied.ended
     ∙ ap (λ ts. tickets_of c.args.ended.now ++ ts)
     (ended-own c.move_whole-left.result c.move_whole-left.new.chunks.marks (length c.args.own.now.items) ∙ c.move_whole-left.ensures.no_end)
     ∙ append-nil (tickets_of c.args.ended.now)
