@@ -270,7 +270,8 @@ impl Evbuffer {
 
     /// Moves the first n bytes, or all where there are fewer, to the end of another buffer, and answers how many. Where
     /// a reference is cut its front part is copied, and the reference stays with the rest. Whole chunks move without being
-    /// copied. Both tell their callbacks. Takes memory for what is copied; linear in the chunks that move and in that.
+    /// copied. Both tell their callbacks. Takes memory for what is copied where there is less room; linear in the chunks that
+    /// move and, over many calls, in that.
     ///
     /// Libevent: event2/buffer.h, `evbuffer_remove_buffer`; "Evbuffers".
     pub fn remove_buffer(&mut self, to: &mut Evbuffer, n: usize) -> Result<usize, BufFault>

@@ -193,3 +193,32 @@ front-moved old others rest moved own cut n left so none no_mark marked whole th
     ∙ ap (λ ms. ms ++ unmarked (left - length rest.bytes)) (so.taken_marks ∙ ap (λ ms. ms ++ uncut_marks (take n old.marks)) none)
     ∙ ap (λ k. uncut_marks (take n old.marks) ++ unmarked k) same
     ∙ sym (uncut-own n old.marks (length own.items) whole (omega (arith, there, marked, length-append old.bytes own.items)))
+
+-- No whole chunk went, and the front of what is left was copied behind own bytes.
+pub front-copied : (old others rest moved to : Gathered) (own to_own now : Owned) (n left : ℕ) → MovesWhole old others n left rest moved
+    → others.marks ≡ [] → length moved.marks ≡ 0 → uncut_marks (take left rest.marks) ≡ unmarked (min left (length rest.bytes))
+    → length old.marks ≡ length old.bytes → AreWhole old.marks → n ≤ length (all_bytes old own)
+    → now.items ≡ to_own.items ++ take left (all_bytes rest own)
+    → all_marks to now ≡ all_marks to to_own ++ uncut_marks (take n (all_marks old own))
+front-copied old others rest moved to own to_own now n left so none still no_mark marked whole there items =
+    let count : ℕ = length (take left (all_bytes rest own)) in
+    let size : length (take left (all_bytes rest own)) ≡ left =
+    omega (
+      arith,
+      length-take left (all_bytes rest own),
+      so.beyond,
+      there,
+      length-append old.bytes own.items,
+      length-append rest.bytes own.items,
+    ) in
+    let cut : Owned = record { items = take left (all_bytes rest own); spare = 0 } in
+    let taken : unmarked count ≡ uncut_marks (take n (all_marks old own)) =
+    ap (λ ms. ms ++ unmarked count) (sym (empty moved.marks still))
+    ∙ front-moved old others rest moved own cut n left so none no_mark marked whole there size in
+    ap (λ k. to.marks ++ unmarked k) (ap length items ∙ length-append to_own.items (take left (all_bytes rest own)))
+    ∙ ap (λ ms. to.marks ++ ms) (sym (replicate-append-replicate (length to_own.items) count None))
+    ∙ sym (append_assoc to.marks (unmarked (length to_own.items)) (unmarked count))
+    ∙ ap (λ ms. all_marks to to_own ++ ms) taken where
+      empty : {A : Type 0} (xs : List A) → length xs ≡ 0 → xs ≡ []
+      empty [] zero_long = refl
+      empty (x ∷ xs) zero_long = absurd (omega (arith, zero_long))

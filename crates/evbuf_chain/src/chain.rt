@@ -6,7 +6,7 @@
 //    front alone.
 // 3. A ticket is released when the last mark of its reference goes, or as it comes in where the reference has no bytes.
 // 4. Where there are bytes, or room for some, behind all chunks, there is a node in which they become a chunk. So chunks go to another
-//    chain without taking memory.
+//    chain without taking memory. The node of a ticket that was taken is kept there, if there is none, for the next reference.
 ghost use Rattle.std.specs.Prelude.{◌≡◌, ◌≤◌, ◌<◌, ◌+◌, ◌-◌, ◌*◌, ◌^◌, ◌++◌, ◌∷◌, ◌==◌, ◌↔◌, [], length, drop, take, min, nat_lt};
 ghost use Rattle.std.specs.Prelude.{OnOk, OnErr};
 ghost use Rattle.std.specs.Prelude.{IfOk, IfSome, IfNone, None, if◌then◌else◌};
@@ -152,7 +152,7 @@ impl Chain {
 
     /// Adds a reference to bytes at the end, with the ticket by which its end is told. One of no bytes is released at
     /// once. Refused as `push_copy`. What is spare afterwards is left open, and so is whether the bytes are shared: they are,
-    /// and none is copied. Takes memory for a node; constant cost.
+    /// and none is copied. Takes memory for a node where none is kept; constant cost.
     ///
     /// Libevent: event2/buffer.h, `evbuffer_add_reference`; "Evbuffers".
     /// Differs: a reference of no bytes does not wait for the next change.
@@ -170,7 +170,7 @@ impl Chain {
                 .push_back(make_node(alloc, Chunk::ended(ticket))?);
             return Ok(());
         }
-        let node = make_node(alloc, Chunk::shared(bytes, ticket))?;
+        let node = self.own.node_of(Chunk::shared(bytes, ticket))?;
         seal(&mut self.own, &mut self.chunks);
         self.chunks.push_back(node);
         Ok(())
@@ -267,13 +267,16 @@ impl Chain {
         ensures none { IfNone result ((self.old.released ≡ []) × (self.new.released ≡ [])) }
         ensures some { IfSome result (λ ticket. self.old.released ≡ ticket ∷ self.new.released) }
     {
-        moves::take_ticket(&mut self.ended)
+        let (ticket, node) = moves::take_ticket(&mut self.ended)?;
+        self.own.keep(node);
+        Some(ticket)
     }
 
     /// Moves the first n bytes, or all where there are fewer, to the end of another chain, and answers how many. Where a
     /// reference is cut, its front part is copied and the reference stays with the rest. Where the other chain's length
     /// would not fit a usize it is refused as Spent, before want of memory. Whole chunks move without being copied. Takes
-    /// memory for what is copied, of the chunk that is cut; linear in the chunks that move and in that.
+    /// memory for what is copied, of the chunk that is cut, where there is less room; linear in the chunks that move and, over
+    /// many calls, in that.
     ///
     /// Libevent: event2/buffer.h, `evbuffer_remove_buffer`; "Evbuffers".
     pub fn split_front(&mut self, n: usize, to: &mut Chain) -> Result<usize, ChainFault>

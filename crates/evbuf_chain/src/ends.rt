@@ -124,8 +124,63 @@ fn seal_front(block: &mut Own, chunks: &mut Chunks)
     }
 }
 
-/// Moves the first n bytes behind those of another chain: whole chunks as they are, and the front of one that is cut as a copy. After
-/// a refusal nothing has changed.
+// Copies the first n bytes behind own bytes of another chain, where nothing is spare then. After a refusal nothing has changed.
+fn copy_front(
+    chunks: &mut Chunks,
+    own: &mut Own,
+    ended: &mut Queue,
+    n: usize,
+    into: &mut Own,
+) -> Result<(), AllocError>
+    requires { n ≤ length (all_bytes chunks.old own.old) }
+    ensures copied { OnOk result (Takes chunks.old own.old (tickets_of ended.old) (record into.old { spare = n }) n
+        chunks.new own.new (tickets_of ended.new) into.new) }
+    ensures err { OnErr result (chunks.new ≡ chunks.old) }
+    ensures err_own { OnErr result (own.new ≡ own.old) }
+    ensures err_ended { OnErr result (tickets_of ended.new ≡ tickets_of ended.old) }
+    ensures err_into { OnErr result (into.new ≡ into.old) }
+{
+    into.reserve(n)?;
+    take(chunks, own, ended, n, into);
+    into.forget_spare();
+    Ok(())
+}
+
+// Copies the first n bytes as own bytes, once others were moved from before them. After a refusal those are in front again, and else
+// nothing has changed.
+fn cut_front(
+    chunks: &mut Chunks,
+    own: &mut Own,
+    ended: &mut Queue,
+    n: usize,
+    moved: &mut Chunks,
+) -> Result<Own, AllocError>
+    requires there { n ≤ length (all_bytes chunks.old own.old) }
+    requires fits { length moved.old.bytes + length chunks.old.bytes < 2 ^ 64 }
+    ensures items { IfOk result (λ cut. cut.items ≡ take n (all_bytes chunks.old own.old)) }
+    ensures bytes { OnOk result (all_bytes chunks.new own.new ≡ drop n (all_bytes chunks.old own.old)) }
+    ensures marks { OnOk result (all_marks chunks.new own.new ≡ drop n (all_marks chunks.old own.old)) }
+    ensures ended { OnOk result (tickets_of ended.new ≡ tickets_of ended.old ++ ended_tickets (take n (all_marks chunks.old own.old))) }
+    ensures moved { OnOk result (moved.new ≡ moved.old) }
+    ensures spare { own.new.spare ≡ own.old.spare }
+
+    ensures err_bytes { OnErr result (chunks.new.bytes ≡ moved.old.bytes ++ chunks.old.bytes) }
+    ensures err_marks { OnErr result (chunks.new.marks ≡ moved.old.marks ++ chunks.old.marks) }
+    ensures err_own { OnErr result (own.new ≡ own.old) }
+    ensures err_ended { OnErr result (tickets_of ended.new ≡ tickets_of ended.old) }
+{
+    let mut cut = Own::new(own.allocator());
+    if cut.reserve(n).is_err() {
+        moved.append(chunks);
+        swap(chunks, moved);
+        return Err(AllocError);
+    }
+    take(chunks, own, ended, n, &mut cut);
+    Ok(cut)
+}
+
+/// Moves the first n bytes behind those of another chain: whole chunks as they are, and the front of one that is cut as a copy, behind
+/// the own bytes there if no chunk comes between. After a refusal nothing has changed.
 pub(crate) fn move_front(
     chunks: &mut Chunks,
     own: &mut Own,
@@ -156,13 +211,11 @@ pub(crate) fn move_front(
     let mut whole = Chunks::new();
     let left = moves::move_whole(chunks, &mut whole, n);
     let _rest = chunks.len();
-    let mut cut = Own::new(own.allocator());
-    if cut.reserve(left).is_err() {
-        whole.append(chunks);
-        swap(chunks, &mut whole);
-        return Err(AllocError);
+    if whole.len() == 0 {
+        copy_front(chunks, own, ended, left, to_own)?;
+        return Ok(());
     }
-    take(chunks, own, ended, left, &mut cut);
+    let mut cut = cut_front(chunks, own, ended, left, &mut whole)?;
     put_behind(to, to_own, &mut whole, &mut cut);
     Ok(())
 }

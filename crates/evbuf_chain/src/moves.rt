@@ -20,14 +20,14 @@ pub(crate) fn release(ended: &mut Queue, mut node: Box<Node>)
     }
 }
 
-/// The ticket that was released first.
-pub(crate) fn take_ticket(ended: &mut Queue) -> Option<u64>
+/// The ticket that was released first, and its node.
+pub(crate) fn take_ticket(ended: &mut Queue) -> Option<(u64, Box<Node>)>
     ensures none { IfNone result ((tickets_of ended.old ≡ []) × (tickets_of ended.new ≡ [])) }
-    ensures some { IfSome result (λ ticket. tickets_of ended.old ≡ ticket ∷ tickets_of ended.new) }
+    ensures some { IfSome result (λ taken. tickets_of ended.old ≡ taken.0 ∷ tickets_of ended.new) }
 {
     while let Some(node) = ended.pop_front() {
         if let Some(ticket) = node.chunk.ticket() {
-            return Some(ticket);
+            return Some((ticket, node));
         }
     }
     None

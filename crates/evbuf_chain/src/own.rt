@@ -1,5 +1,6 @@
 // The bytes behind all chunks of a chain, and the node in which they become a chunk.
-ghost use Rattle.std.specs.Prelude.{◌≡◌, ◌≤◌, ◌<◌, ◌+◌, ◌-◌, ◌^◌, ◌++◌, [], length, drop, max, OnOk, OnErr, IfSome, IfNone, is_some, true};
+ghost use Rattle.std.specs.Prelude.{◌≡◌, ◌≤◌, ◌<◌, ◌+◌, ◌-◌, ◌^◌, ◌++◌, [], length, drop, max, is_some, true};
+ghost use Rattle.std.specs.Prelude.{OnOk, OnErr, IfOk, IfSome, IfNone};
 ghost use Rattle.evbuf_chain.specs.Mark.{unmarked};
 ghost use Rattle.evbuf_chain.specs.ChunkValue.{given_up_own};
 
@@ -11,7 +12,7 @@ use std::marker::Model;
 use std::mem::replace;
 
 /// Bytes in memory of their own, and at least how many more fit behind them. Where there is one, or room for one, there is a
-/// node too, so that they become a chunk without taking memory.
+/// node too, so that they become a chunk without taking memory. Where there is none, a node may be kept for the next reference.
 ///
 /// Own.
 #[derive(Drop)]
@@ -124,6 +125,9 @@ impl Own {
         ensures items { self.new.items ≡ drop n self.old.items }
         ensures spare { self.new.spare ≡ self.old.spare }
     {
+        if n == 0 {
+            return;
+        }
         self.bytes.drop_front(n);
     }
 
@@ -144,6 +148,32 @@ impl Own {
         ensures spare { self.new.spare ≡ 0 }
     {
         self.spare = 0;
+    }
+
+    /// Keeps a node that is done with, where there is none.
+    pub(crate) fn keep(&mut self, node: Box<Node>)
+        ensures { self.new ≡ self.old }
+    {
+        if self.node.is_none() {
+            self.node = Some(node);
+        }
+    }
+
+    /// A node of a chunk that comes behind: the one that is here where there is no byte, and else a new one. After a refusal nothing
+    /// has changed.
+    pub(crate) fn node_of(&mut self, chunk: Chunk) -> Result<Box<Node>, AllocError>
+        ensures node { IfOk result (λ node. node.value.chunk ≡ chunk) }
+        ensures items { self.new.items ≡ self.old.items }
+        ensures err { OnErr result (self.new ≡ self.old) }
+    {
+        if self.bytes.len() == 0
+            && let Some(mut node) = self.node.take()
+        {
+            self.spare = 0;
+            node.chunk = chunk;
+            return Ok(node);
+        }
+        make_node(self.bytes.allocator(), chunk)
     }
 
     /// Makes a chunk of the bytes, where there are some, with which their room goes.

@@ -43,6 +43,10 @@ impl Queue {
     pub(crate) fn push_back(&mut self, node: Box<Node>)
         ensures { self.new ≡ self.old ++ node.value.chunk ∷ [] }
     {
+        if self.back.is_empty() && self.front.is_empty() {
+            self.front.push(node);
+            return;
+        }
         self.back.push(node);
     }
 

@@ -1,10 +1,10 @@
 // Chunks, the first on top.
-ghost use Rattle.std.specs.Prelude.{◌≡◌, [], ◌∷◌, IfSome, IfNone, IfOk};
+ghost use Rattle.std.specs.Prelude.{◌≡◌, [], ◌∷◌, ◌↔◌, IsTrue, IfSome, IfNone, IfOk};
 
 use crate::chunk::Chunk;
 use std::alloc::{AllocError, Global};
 use std::marker::Model;
-use std::mem::replace;
+use std::mem::swap;
 
 /// Chunks, of which the first is on top.
 #[cycle(stack)]
@@ -60,6 +60,12 @@ impl Stack {
         Stack { top: None }
     }
 
+    pub(crate) fn is_empty(&self) -> bool
+        ensures { IsTrue result ↔ (self.now ≡ []) }
+    {
+        self.top.is_none()
+    }
+
     /// The node on top.
     pub(crate) fn top(&self) -> Option<&Node>
         ensures none { IfNone result (self.now ≡ []) }
@@ -72,7 +78,7 @@ impl Stack {
     pub(crate) fn push(&mut self, mut node: Box<Node>)
         ensures { self.new ≡ node.value.chunk ∷ self.old }
     {
-        node.below = replace(self, Stack::new());
+        swap(self, &mut node.below);
         self.top = Some(node);
     }
 
@@ -83,7 +89,7 @@ impl Stack {
         ensures some { IfSome result (λ node. self.old ≡ node.value.chunk ∷ self.new) }
     {
         let mut node = self.top.take()?;
-        *self = replace(&mut node.below, Stack::new());
+        swap(self, &mut node.below);
         Some(node)
     }
 }
