@@ -5,7 +5,7 @@
 // 2. Each change of the bytes is told to each callback that is enabled, once, in the same call.
 // 3. A number of a callback is not used again.
 ghost use Rattle.std.specs.Prelude.{◌≡◌, ◌≤◌, ◌+◌, ◌-◌, ◌*◌, ◌^◌, ◌<◌, ◌++◌, ◌∷◌, [], length, drop, take, min, true, false, OnOk};
-ghost use Rattle.std.specs.Prelude.{OnErr, IfOk, IfSome, IfNone, None, Some, option_map};
+ghost use Rattle.std.specs.Prelude.{OnErr, IsOk, IfOk, IfSome, IfNone, None, Some, option_map};
 ghost use Rattle.byte_queue.specs.MemoryAnswers.{AnswersOr, fault_of};
 ghost use Rattle.evbuf_chain.specs.Buffered.{joined, PullupAnswer};
 ghost use Rattle.byte_queue.specs.QueuedBytes.{most_spare};
@@ -112,6 +112,10 @@ impl Evbuffer {
         ensures kept { self.old.spare ≤ self.new.spare }
         ensures most { self.new.spare ≤ most_spare self.old.spare n (length self.old.bytes) }
         ensures err { OnErr result (self.new ≡ self.old) }
+
+        // Where there is room it isn't refused, and changes nothing.
+        ensures there { n ≤ self.old.spare → IsOk result }
+        ensures still { n ≤ self.old.spare → self.new ≡ self.old }
     {
         self.chain.reserve(n)?;
         Ok(())
@@ -140,6 +144,10 @@ impl Evbuffer {
         ensures ok { OnOk result (self.new ≡ after_add self.old bytes.now self.new.spare) }
         ensures most { self.new.spare ≤ most_spare self.old.spare 0 (length self.old.bytes) }
         ensures err { OnErr result (self.new ≡ self.old) }
+
+        // What is left of the room, and where there is room enough memory isn't wanted.
+        ensures spare { OnOk result (self.new.spare ≡ self.old.spare - length bytes.now) }
+        ensures there { length bytes.now ≤ self.old.spare → fault_of result ≡ add_refusal self.old (length bytes.now) }
     {
         self.end_open()?;
         let before = self.chain.len();
@@ -189,7 +197,7 @@ impl Evbuffer {
     pub fn drain(&mut self, n: usize) -> Result<(), BufFault>
         ensures answer { fault_of result ≡ front_refusal self.old }
         ensures ok { OnOk result (self.new ≡ after_drain self.old n self.new.spare) }
-        ensures spare { self.old.spare ≤ self.new.spare }
+        ensures spare { self.new.spare ≡ self.old.spare }
         ensures most { OnOk result (length self.new.bytes + self.new.spare ≤ self.old.spare + 4 * length self.old.bytes) }
         ensures err { OnErr result (self.new ≡ self.old) }
     {
@@ -209,7 +217,7 @@ impl Evbuffer {
         ensures count { IfOk result (λ n. n ≡ min (length into.old) (length self.old.bytes)) }
         ensures copied { IfOk result (λ n. into.new ≡ take n self.old.bytes ++ drop n into.old) }
         ensures ok { IfOk result (λ n. self.new ≡ after_drain self.old n self.new.spare) }
-        ensures spare { self.old.spare ≤ self.new.spare }
+        ensures spare { self.new.spare ≡ self.old.spare }
         ensures err { OnErr result (self.new ≡ self.old) }
         ensures into_err { OnErr result (into.new ≡ into.old) }
     {

@@ -8,7 +8,7 @@
 // 4. Where there are bytes, or room for some, behind all chunks, there is a node in which they become a chunk. So chunks go to another
 //    chain without taking memory. The node of a ticket that was taken is kept there, if there is none, for the next reference.
 ghost use Rattle.std.specs.Prelude.{◌≡◌, ◌≤◌, ◌<◌, ◌+◌, ◌-◌, ◌*◌, ◌^◌, ◌++◌, ◌∷◌, ◌==◌, ◌↔◌, [], length, drop, take, min, nat_lt};
-ghost use Rattle.std.specs.Prelude.{OnOk, OnErr};
+ghost use Rattle.std.specs.Prelude.{OnOk, OnErr, IsOk};
 ghost use Rattle.std.specs.Prelude.{IfOk, IfSome, IfNone, None, if◌then◌else◌};
 ghost use Rattle.byte_queue.specs.MemoryAnswers.{AnswersOr, fault_of};
 ghost use Rattle.evbuf_chain.specs.Mark.{unmarked, reference_marks, ended_tickets, uncut_marks, AreWhole};
@@ -116,7 +116,14 @@ impl Chain {
         ensures kept { self.old.spare ≤ self.new.spare }
         ensures most { self.new.spare ≤ most_spare self.old.spare n (length self.old.bytes) }
         ensures err { OnErr result (self.new ≡ self.old) }
+
+        // Where there is room it isn't refused, and changes nothing.
+        ensures there { n ≤ self.old.spare → IsOk result }
+        ensures still { n ≤ self.old.spare → self.new ≡ self.old }
     {
+        if n <= self.own.spare() {
+            return Ok(());
+        }
         if n > usize::MAX - self.len() {
             return Err(ChainFault::Memory);
         }
@@ -144,6 +151,10 @@ impl Chain {
         ensures released { self.new.released ≡ self.old.released }
         ensures most { self.new.spare ≤ most_spare self.old.spare 0 (length self.old.bytes) }
         ensures err { OnErr result (self.new ≡ self.old) }
+
+        // What is left of the room, and where there is room enough it isn't refused.
+        ensures spare { OnOk result (self.new.spare ≡ self.old.spare - length bytes.now) }
+        ensures there { length bytes.now ≤ self.old.spare → IsOk result }
     {
         self.fits(bytes.len())?;
         self.own.append(bytes)?;
@@ -202,7 +213,7 @@ impl Chain {
         ensures bytes { self.new.bytes ≡ drop n self.old.bytes }
         ensures marks { self.new.marks ≡ drop n self.old.marks }
         ensures released { self.new.released ≡ self.old.released ++ ended_tickets (take n self.old.marks) }
-        ensures spare { self.old.spare ≤ self.new.spare }
+        ensures spare { self.new.spare ≡ self.old.spare }
         ensures most { length self.new.bytes + self.new.spare ≤ self.old.spare + 4 * length self.old.bytes }
     {
         let _marked = self.chunks.len();

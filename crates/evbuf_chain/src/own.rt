@@ -1,6 +1,6 @@
 // The bytes behind all chunks of a chain, and the node in which they become a chunk.
 ghost use Rattle.std.specs.Prelude.{◌≡◌, ◌≤◌, ◌<◌, ◌+◌, ◌-◌, ◌^◌, ◌++◌, [], length, drop, max, is_some, true};
-ghost use Rattle.std.specs.Prelude.{OnOk, OnErr, IfOk, IfSome, IfNone};
+ghost use Rattle.std.specs.Prelude.{OnOk, OnErr, IfOk, IsOk, IfSome, IfNone};
 ghost use Rattle.evbuf_chain.specs.Mark.{unmarked};
 ghost use Rattle.evbuf_chain.specs.ChunkValue.{given_up_own};
 
@@ -97,6 +97,7 @@ impl Own {
     pub(crate) fn append(&mut self, bytes: &[u8]) -> Result<(), AllocError>
         ensures items { OnOk result (self.new.items ≡ self.old.items ++ bytes.now) }
         ensures spare { OnOk result (self.new.spare ≡ self.old.spare - length bytes.now) }
+        ensures there { length bytes.now ≤ self.old.spare → IsOk result }
         ensures err { OnErr result (self.new ≡ self.old) }
     {
         if bytes.len() <= self.spare {
