@@ -72,6 +72,14 @@ covered-skipped place bytes from window past =
     ap (λ bs. take (place - from) window ++ overlaid bs (drop (place - from) window)) none
     ∙ ap (λ k. take k window ++ drop k window) at_front
 
+pub covered-past : (place : ℕ) (bytes : List ℕ) (from : ℕ) (window : List ℕ) → from + length window ≤ place
+    → covered place bytes from window ≡ window
+covered-past place bytes from window past =
+    let none : drop (place - from) window ≡ [] = drop_all (place - from) window (omega (arith, past)) in
+    ap (λ ws. take (place - from) window ++ overlaid (drop (from - place) bytes) ws) none
+    ∙ ap (λ bs. take (place - from) window ++ bs) (overlaid-on_none (drop (from - place) bytes) ∙ sym none)
+    ∙ take-append-drop (place - from) window
+
 pub covered-then : (place : ℕ) (first more : List ℕ) (from : ℕ) (window : List ℕ)
     → covered (place + length first) more from (covered place first from window) ≡ covered place (first ++ more) from window
 covered-then place first more from window = elim (leb_tells (from - place) (length first)) [
@@ -151,6 +159,12 @@ pub Forward-end : (all : List ℕ) (place : ℕ) (rest : List ℕ) (from : ℕ) 
     → Forward all place rest from old now → rest ≡ [] → now ≡ covered 0 all from old
 Forward-end all place rest from old now so none =
     sym (covered-nothing place rest from now none) ∙ so.parts
+
+-- what is left lies behind the window
+pub Forward-past : (all : List ℕ) (place : ℕ) (rest : List ℕ) (from : ℕ) (old now : List ℕ)
+    → Forward all place rest from old now → from + length now ≤ place → now ≡ covered 0 all from old
+Forward-past all place rest from old now so past =
+    sym (covered-past place rest from now past) ∙ so.parts
 
 pub Backward-next : (all : List ℕ) (end place : ℕ) (rest : List ℕ) (from : ℕ) (old now then more last : List ℕ) (k : ℕ)
     → Backward all end place rest from old now → rest ≡ more ++ last → k ≡ length last → then ≡ covered (place - k) last from now

@@ -103,6 +103,7 @@ impl Chunks {
 
     /// Copies the bytes from a place on to a window, as far as they are there.
     pub(crate) fn copy_out(&self, from: usize, window: &mut [u8])
+        requires { from + length window.old < 2 ^ 64 }
         ensures { window.new ≡ covered 0 self.now.bytes from window.old }
     {
         self.queue.copy_out(self.len, from, window);

@@ -1,6 +1,6 @@
 // Chunks in order, of which the front ones lie on one stack and those behind, the last on top, on another. So nodes go in
 // and out at both ends without taking memory.
-ghost use Rattle.std.specs.Prelude.{◌≡◌, [], ◌∷◌, ◌++◌, IfSome, IfNone, OnOk, reverse, length, take};
+ghost use Rattle.std.specs.Prelude.{◌≡◌, [], ◌∷◌, ◌++◌, ◌+◌, ◌^◌, ◌<◌, IfSome, IfNone, OnOk, reverse, length, take};
 ghost use Rattle.evbuf_chain.specs.ChunkValue.{chunk_bytes, first_bytes};
 ghost use Rattle.evbuf_chain.specs.Covered.{covered};
 ghost use Rattle.evbuf_chain.specs.Buffered.{joined};
@@ -70,11 +70,13 @@ impl Queue {
 
     /// Copies the bytes from a place on to a window, as far as they are there.
     pub(crate) fn copy_out(&self, end: usize, from: usize, window: &mut [u8])
-        requires { end ≡ length (chunk_bytes self.now) }
+        requires end { end ≡ length (chunk_bytes self.now) }
+        requires fits { from + length window.old < 2 ^ 64 }
         ensures { window.new ≡ covered 0 (chunk_bytes self.now) from window.old }
     {
-        reading::copy_forward(&self.front, from, window);
-        reading::copy_backward(&self.back, end, from, window);
+        if !reading::copy_forward(&self.front, from, window) {
+            reading::copy_backward(&self.back, end, from, window);
+        }
     }
 
     /// Shows the first n bytes, or all where there are fewer, behind other slices.

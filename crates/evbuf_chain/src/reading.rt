@@ -1,5 +1,5 @@
 // How the bytes of chunks are read where they lie: those of the front stack from the front, and those of the back stack from the end.
-ghost use Rattle.std.specs.Prelude.{◌≡◌, ◌≤◌, ◌<◌, ◌+◌, ◌-◌, ◌^◌, ◌++◌, length, drop, take, reverse, [], OnOk};
+ghost use Rattle.std.specs.Prelude.{◌≡◌, ◌≤◌, ◌<◌, ◌+◌, ◌-◌, ◌^◌, ◌++◌, length, drop, take, reverse, [], true, OnOk};
 ghost use Rattle.evbuf_chain.specs.ChunkValue.{chunk_bytes, first_bytes};
 ghost use Rattle.evbuf_chain.specs.Covered.{overlaid, covered};
 ghost use Rattle.evbuf_chain.specs.Buffered.{joined};
@@ -28,20 +28,26 @@ pub(crate) fn copy_part(bytes: &[u8], place: usize, from: usize, window: &mut [u
     overlay(bytes, window);
 }
 
-/// The same for the chunks of a stack, one after another. Answers how many bytes they have.
-pub(crate) fn copy_forward(stack: &Stack, from: usize, window: &mut [u8]) -> usize
-    requires { length (chunk_bytes stack.now) < 2 ^ 64 }
-    ensures len { result ≡ length (chunk_bytes stack.now) }
+/// The same for the chunks of a stack, one after another, of which none is looked at that lies behind the window. Answers whether they
+/// reach its end.
+pub(crate) fn copy_forward(stack: &Stack, from: usize, window: &mut [u8]) -> bool
+    requires few { length (chunk_bytes stack.now) < 2 ^ 64 }
+    requires fits { from + length window.old < 2 ^ 64 }
     ensures copied { window.new ≡ covered 0 (chunk_bytes stack.now) from window.old }
+    ensures filled { result ≡ true → from + length window.old ≤ length (chunk_bytes stack.now) }
 {
+    let end = from + window.len();
     let mut at = stack;
     let mut place = 0usize;
-    while let Some(node) = at.top() {
+    while place < end {
+        let Some(node) = at.top() else {
+            return false;
+        };
         copy_part(node.chunk.as_slice(), place, from, window);
         place += node.chunk.len();
         at = &node.below;
     }
-    place
+    true
 }
 
 /// The same for those of a stack of which the top is the last and ends at a place.
