@@ -90,7 +90,9 @@ impl Queue {
         requires { end ≡ length (chunk_bytes self.now) }
         ensures { OnOk result (joined slices.new.items ≡ joined slices.old.items ++ take n (chunk_bytes self.now)) }
     {
-        reading::show_forward(&self.front, n, slices)?;
+        if reading::show_forward(&self.front, n, slices)? {
+            return Ok(());
+        }
         let mut turned = SmallVec::new(alloc);
         reading::show_backward(&self.back, end, n, &mut turned)?;
         reading::turn(&mut turned, slices)?;

@@ -1,5 +1,5 @@
 // How the bytes of chunks are read where they lie: those of the front stack from the front, and those of the back stack from the end.
-ghost use Rattle.std.specs.Prelude.{◌≡◌, ◌≤◌, ◌<◌, ◌+◌, ◌-◌, ◌^◌, ◌++◌, length, drop, take, reverse, [], true, OnOk};
+ghost use Rattle.std.specs.Prelude.{◌≡◌, ◌≤◌, ◌<◌, ◌+◌, ◌-◌, ◌^◌, ◌++◌, length, drop, take, reverse, [], true, OnOk, IfOk};
 ghost use Rattle.evbuf_chain.specs.ChunkValue.{chunk_bytes, first_bytes};
 ghost use Rattle.evbuf_chain.specs.Covered.{overlaid, covered};
 ghost use Rattle.evbuf_chain.specs.Buffered.{joined};
@@ -72,13 +72,14 @@ pub(crate) fn first(bytes: &[u8], n: usize) -> &[u8]
     bytes.split_at(n.min(bytes.len())).0
 }
 
-/// Shows the first n bytes of the chunks of a stack, or all where there are fewer, behind other slices.
+/// Shows the first n bytes of the chunks of a stack, or all where there are fewer, behind other slices. Answers whether there are n.
 pub(crate) fn show_forward<'a>(
     stack: &'a Stack,
     n: usize,
     slices: &mut SmallVec<&'a [u8], 8>,
-) -> Result<(), AllocError>
-    ensures { OnOk result (joined slices.new.items ≡ joined slices.old.items ++ take n (chunk_bytes stack.now)) }
+) -> Result<bool, AllocError>
+    ensures shown { OnOk result (joined slices.new.items ≡ joined slices.old.items ++ take n (chunk_bytes stack.now)) }
+    ensures enough { IfOk result (λ enough. enough ≡ true → n ≤ length (chunk_bytes stack.now)) }
 {
     let mut at = stack;
     let mut left = n;
@@ -91,7 +92,7 @@ pub(crate) fn show_forward<'a>(
         left -= bytes.len();
         at = &node.below;
     }
-    Ok(())
+    Ok(left == 0)
 }
 
 /// The same for those of a stack of which the top is the last and ends at a place, the last slice first.

@@ -16,7 +16,7 @@ returns c =
     let start : n - (c.args.end - length back) ≡ n - length front =
     omega (arith, c.requires, ap length all, length-append front back) in
     c.in_ok-turn.ensures
-    ∙ ap (λ bs. bs ++ joined (reverse c.show_backward.new.turned.items)) c.in_ok-show_forward.ensures
+    ∙ ap (λ bs. bs ++ joined (reverse c.show_backward.new.turned.items)) c.in_ok-show_forward.ensures.shown
     ∙ append_assoc old (take n front) (joined (reverse c.show_backward.new.turned.items))
     ∙ ap (λ bs. old ++ (take n front ++ bs)) (c.in_ok-show_backward.ensures ∙ ap (λ k. take k back) start)
     ∙ ap (λ bs. old ++ bs) (sym (take-append n front back) ∙ ap (λ bs. take n bs) all)
