@@ -158,19 +158,20 @@ impl Base {
         ensures refused { IfErr result (λ fault. IsAnswer fault (add_event self.old event (Some delay))) }
         ensures stays { OnErr result (self.new ≡ self.old) }
     {
-        let Some(kept) = live_event(&self.events, event as usize) else {
+        let Some(_) = live_event(&self.events, event as usize) else {
             return Err(BaseFault::NoEvent);
         };
         let deadline = self.time + delay;
         self.deadlines.set(event, deadline, delay)?;
         let order = self.deadlines.last();
-        let added = kept.added_until(Timeout {
+        let added = &mut self.events[event as usize];
+        added.add_until(Timeout {
             deadline,
             delay,
             order,
         });
-        self.events[event as usize] = added;
-        self.ready.rest_unless(event, added.is_active());
+        let stays = added.is_active();
+        self.ready.rest_unless(event, stays);
         Ok(())
     }
 

@@ -49,9 +49,10 @@ pub fn raise_all(
 {
     let mut order = next;
     for number in numbers {
-        let event = events[*number as usize];
-        events[*number as usize] = event.activated(flag, order, first, more);
-        order += event.needed();
+        let event = &mut events[*number as usize];
+        let needed = event.needed();
+        event.activate(flag, order, first, more);
+        order += needed;
     }
 }
 
