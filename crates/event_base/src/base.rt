@@ -355,10 +355,11 @@ impl Base {
             return Ok(None);
         };
         let timeout = set_again(&mut self.deadlines, event, &kept, self.time, active.flags)?;
-        let called = kept.called(active, timeout);
+        let called = &mut self.events[event as usize];
+        called.begin_call(active, timeout);
+        let stays = called.is_active();
         self.ready
-            .rest_front_unless(self.batch_priority, event, called.is_active());
-        self.events[event as usize] = called;
+            .rest_front_unless(self.batch_priority, event, stays);
         Ok(Some((event, active.flags)))
     }
 

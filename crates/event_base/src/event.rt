@@ -232,9 +232,13 @@ impl Event {
         if self.persist { self.timeout } else { None }
     }
 
-    /// The event as a callback of it starts, a timeout that it had being this one from then on.
-    pub fn called(self, active: Activation, timeout: Option<Timeout>) -> Event
-        ensures { result ≡ record self { pending = self.persist && self.pending; timeout = timeout; active = one_less active } }
+    /// A callback of it starts, and a timeout that it had is this one from then on.
+    pub fn begin_call(&mut self, active: Activation, timeout: Option<Timeout>)
+        ensures { self.new ≡ record self.old {
+          pending = self.old.persist && self.old.pending;
+          timeout = timeout;
+          active = one_less active;
+        } }
     {
         let left = if active.count <= 1 {
             None
@@ -244,12 +248,9 @@ impl Event {
                 ..active
             })
         };
-        Event {
-            pending: self.persist && self.pending,
-            timeout,
-            active: left,
-            ..self
-        }
+        self.pending = self.persist && self.pending;
+        self.timeout = timeout;
+        self.active = left;
     }
 }
 
