@@ -12,7 +12,7 @@ ghost use Rattle.event_base.specs.Rousing.{risen, wakers, CanRise, AreApart};
 use crate::BaseFault;
 use crate::deadlines::Deadlines;
 use crate::event::{Event, SIGNAL, TIMEOUT, Timeout, event_at, live_event};
-use crate::ready::Ready;
+use crate::ready::{Ready, Waking};
 use crate::rousing::{any_overflows, hearing, raise_all, runs_out_at, set_again, wakers, woken_by};
 use std::alloc::Global;
 use std::marker::Model;
@@ -23,7 +23,8 @@ const MAX_EVENTS: usize = 1 << 32;
 /// The latest moment that a clock can tell, in milliseconds.
 const MAX_TIME: u64 = 1 << 62;
 
-/// Events, the time of their turns, and which of them fire next.
+/// Events, the time of their turns, and which of them fire next. The list of those that become active keeps its room for the next
+/// turn.
 ///
 /// Libevent: event2/event.h, `event_base`; "Creating an event_base" and "Working with an event loop".
 #[derive(Drop)]
@@ -31,6 +32,7 @@ pub struct Base {
     events: Vec<Event>,
     deadlines: Deadlines,
     ready: Ready,
+    waking: Vec<Waking>,
     time: u64,
     batch_priority: u32,
     batch_end: u64,
@@ -66,6 +68,7 @@ impl Base {
             events: Vec::new(alloc),
             deadlines: Deadlines::new(alloc),
             ready,
+            waking: Vec::new(alloc),
             time: 0,
             batch_priority: 0,
             batch_end: 0,
@@ -155,19 +158,20 @@ impl Base {
         ensures refused { IfErr result (λ fault. IsAnswer fault (add_event self.old event (Some delay))) }
         ensures stays { OnErr result (self.new ≡ self.old) }
     {
-        let Some(kept) = live_event(&self.events, event as usize) else {
+        let Some(_) = live_event(&self.events, event as usize) else {
             return Err(BaseFault::NoEvent);
         };
         let deadline = self.time + delay;
         self.deadlines.set(event, deadline, delay)?;
         let order = self.deadlines.last();
-        let added = kept.added_until(Timeout {
+        let added = &mut self.events[event as usize];
+        added.add_until(Timeout {
             deadline,
             delay,
             order,
         });
-        self.ready.rest_unless(event, added.is_active());
-        self.events[event as usize] = added;
+        let stays = added.is_active();
+        self.ready.rest_unless(event, stays);
         Ok(())
     }
 
@@ -185,9 +189,9 @@ impl Base {
         let Some(kept) = live_event(&self.events, event as usize) else {
             return Err(BaseFault::NoEvent);
         };
+        self.events[event as usize] = kept.deleted();
         self.deadlines.clear(event);
         self.ready.rest(event);
-        self.events[event as usize] = kept.deleted();
         Ok(())
     }
 
@@ -205,9 +209,9 @@ impl Base {
         let Some(kept) = live_event(&self.events, event as usize) else {
             return Err(BaseFault::NoEvent);
         };
+        self.events[event as usize] = kept.into_freed();
         self.deadlines.clear(event);
         self.ready.rest(event);
-        self.events[event as usize] = kept.into_freed();
         Ok(())
     }
 
@@ -351,10 +355,11 @@ impl Base {
             return Ok(None);
         };
         let timeout = set_again(&mut self.deadlines, event, &kept, self.time, active.flags)?;
-        let called = kept.called(active, timeout);
+        let called = &mut self.events[event as usize];
+        called.begin_call(active, timeout);
+        let stays = called.is_active();
         self.ready
-            .rest_front_unless(self.batch_priority, event, called.is_active());
-        self.events[event as usize] = called;
+            .rest_front_unless(self.batch_priority, event, stays);
         Ok(Some((event, active.flags)))
     }
 
@@ -404,10 +409,9 @@ impl Base {
         ensures refused { IfErr result (λ fault. fault ≡ BaseFault.Memory) }
         ensures stays { OnErr result (self.new ≡ self.old) }
     {
-        let alloc = *self.events.allocator();
-        let waking = wakers(alloc, &self.events, numbers)?;
+        wakers(&mut self.waking, &self.events, numbers)?;
         let next = self.ready.next();
-        self.ready.wake_all(&waking)?;
+        self.ready.wake_all(&self.waking)?;
         raise_all(&mut self.events, numbers, flag, next, first, more);
         Ok(())
     }

@@ -159,11 +159,11 @@ impl Event {
         }
     }
 
-    /// The event with a flag more; where it isn't active yet, with this order number and so many first calls, else
-    /// with so many calls more.
-    pub fn activated(self, flag: u8, order: u64, first: u64, more: u64) -> Event
-        requires { 0 < more → ForSome self.active (λ a. a.count + more < 2 ^ 64) }
-        ensures { result ≡ activated flag order first more self }
+    /// Gives it a flag more; where it isn't active yet, this order number and so many first calls, else so many calls
+    /// more.
+    pub fn activate(&mut self, flag: u8, order: u64, first: u64, more: u64)
+        requires { 0 < more → ForSome self.old.active (λ a. a.count + more < 2 ^ 64) }
+        ensures { self.new ≡ activated flag order first more self.old }
     {
         let joined = match self.active {
             Some(active) => Activation {
@@ -177,10 +177,7 @@ impl Event {
                 count: first,
             },
         };
-        Event {
-            active: Some(joined),
-            ..self
-        }
+        self.active = Some(joined);
     }
 
     /// The event as it is added without a timeout.
@@ -193,19 +190,16 @@ impl Event {
         }
     }
 
-    /// The event as it is added with a timeout.
-    pub fn added_until(self, timeout: Timeout) -> Event
-        ensures { result ≡ added (Some timeout) self }
+    /// Adds it with a timeout.
+    pub fn add_until(&mut self, timeout: Timeout)
+        ensures { self.new ≡ added (Some timeout) self.old }
     {
-        let active = match self.active {
-            Some(active) if active.flags & TIMEOUT == TIMEOUT => None,
-            active => active,
-        };
-        Event {
-            pending: true,
-            timeout: Some(timeout),
-            active,
-            ..self
+        self.pending = true;
+        self.timeout = Some(timeout);
+        if let Some(active) = self.active {
+            if active.flags & TIMEOUT == TIMEOUT {
+                self.active = None;
+            }
         }
     }
 
@@ -238,9 +232,13 @@ impl Event {
         if self.persist { self.timeout } else { None }
     }
 
-    /// The event as a callback of it starts, a timeout that it had being this one from then on.
-    pub fn called(self, active: Activation, timeout: Option<Timeout>) -> Event
-        ensures { result ≡ record self { pending = self.persist && self.pending; timeout = timeout; active = one_less active } }
+    /// A callback of it starts, and a timeout that it had is this one from then on.
+    pub fn begin_call(&mut self, active: Activation, timeout: Option<Timeout>)
+        ensures { self.new ≡ record self.old {
+          pending = self.old.persist && self.old.pending;
+          timeout = timeout;
+          active = one_less active;
+        } }
     {
         let left = if active.count <= 1 {
             None
@@ -250,12 +248,9 @@ impl Event {
                 ..active
             })
         };
-        Event {
-            pending: self.persist && self.pending,
-            timeout,
-            active: left,
-            ..self
-        }
+        self.pending = self.persist && self.pending;
+        self.timeout = timeout;
+        self.active = left;
     }
 }
 

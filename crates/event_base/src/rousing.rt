@@ -16,14 +16,15 @@ use crate::event::{Event, Timeout};
 use crate::ready::Waking;
 use std::alloc::{AllocError, Global};
 
-/// Which of the events with these numbers become active. Takes memory.
-pub fn wakers(alloc: Global, events: &[Event], numbers: &[u64]) -> Result<Vec<Waking>, AllocError>
+/// Puts those of the events with these numbers that become active into a list, in place of what it held. Takes memory where it
+/// has less room.
+pub fn wakers(waking: &mut Vec<Waking>, events: &[Event], numbers: &[u64]) -> Result<(), AllocError>
     requires { All (λ k. k < length events.now) numbers.now }
-    ensures { IfOk result (λ waking. waking.items ≡ wakers events.now numbers.now) }
+    ensures { OnOk result (waking.new.items ≡ wakers events.now numbers.now) }
 {
-    let mut waking = Vec::new(alloc);
+    waking.clear();
     for number in numbers {
-        let event = events[*number as usize];
+        let event = &events[*number as usize];
         if !event.is_active() {
             waking.push(Waking {
                 event: *number,
@@ -31,7 +32,7 @@ pub fn wakers(alloc: Global, events: &[Event], numbers: &[u64]) -> Result<Vec<Wa
             })?;
         }
     }
-    Ok(waking)
+    Ok(())
 }
 
 /// Gives the events with these numbers a flag, those that become active from this order number on. Takes no memory.
@@ -48,9 +49,10 @@ pub fn raise_all(
 {
     let mut order = next;
     for number in numbers {
-        let event = events[*number as usize];
-        events[*number as usize] = event.activated(flag, order, first, more);
-        order += event.needed();
+        let event = &mut events[*number as usize];
+        let needed = event.needed();
+        event.activate(flag, order, first, more);
+        order += needed;
     }
 }
 

@@ -9,7 +9,7 @@ use Rattle.event_base.specs.Events.{added, unless_freed, is_active, not_by_timeo
 use Rattle.event_base.specs.Deadlines.{Moment, DeadlinesValue}
 use Rattle.event_base.specs.Ready.{ReadyValue}
 use Rattle.event_base.specs.Tied.{AreKept, place_of, moment_of}
-use Rattle.event_base.proofs.TiedLemmas.{AreKept-set, AreKept-moment, AreKept-last, priority-within}
+use Rattle.event_base.proofs.TiedLemmas.{AreKept-set, AreKept-moment, AreKept-last, priority-within, slice_get-get_or}
 use Rattle.event_base.proofs.base.Base.add_until.Goals as goal
 
 still : (b : Bool) (a : Activation) → is_some (cond b None (Some a)) ≡ true → cond b None (Some a) ≡ Some a
@@ -53,24 +53,31 @@ kept_by events deadlines ready k last e t kept is = split (is_active (added (Som
 
 pub invariant_of-self-2 : goal.invariant_of-self-2
 invariant_of-self-2 c =
-    let is : slice_get c.self.inside.events.items c.args.event ≡ Some c.in-Some.kept = sym
-    (ap (λ xs. slice_get xs c.args.event) c.deref.ensures.value) ∙ c.in-Some.ensures.there c.in-Some.kept refl in
+    let is : slice_get c.self.inside.events.items c.args.event ≡ Some c.in-Some.field-0 = sym
+    (ap (λ xs. slice_get xs c.args.event) c.deref.ensures.value) ∙ c.in-Some.ensures.there c.in-Some.field-0 refl in
+    let same : c.index_mut-added.result.now ≡ c.in-Some.field-0 = c.index_mut-added.ensures.value
+    ∙ slice_get-get_or c.self.inside.events.items c.args.event c.in-Some.field-0 c.index_mut-added.result.now is in
     record {
-      kept = rw (c.rest_unless.ensures, c.is_active.ensures, c.added_until-added.ensures, c.last-order.ensures, c.in_ok-set.ensures.ok)
-          (kept_by c.self.inside.events.items c.self.inside.deadlines c.self.inside.ready c.args.event _ c.in-Some.kept _
+      kept = rw (c.rest_unless.ensures, c.is_active-stays.ensures, c.add_until.ensures, same, c.last-order.ensures, c.in_ok-set.ensures.ok)
+          (kept_by c.self.inside.events.items c.self.inside.deadlines c.self.inside.ready c.args.event _ c.in-Some.field-0 _
           c.self.invariant.kept is);
       early = c.self.invariant.early;
     }
 
 pub returns-clause-ok : goal.returns-clause-ok
 returns-clause-ok c =
-    let is : unless_freed (slice_get c.self.inside.events.items c.args.event) ≡ Some c.in-Some.kept = sym
+    let is : slice_get c.self.inside.events.items c.args.event ≡ Some c.in-Some.field-0 = sym
+    (ap (λ xs. slice_get xs c.args.event) c.deref.ensures.value) ∙ c.in-Some.ensures.there c.in-Some.field-0 refl in
+    let same : c.index_mut-added.result.now ≡ c.in-Some.field-0 = c.index_mut-added.ensures.value
+    ∙ slice_get-get_or c.self.inside.events.items c.args.event c.in-Some.field-0 c.index_mut-added.result.now is in
+    let live : unless_freed (slice_get c.self.inside.events.items c.args.event) ≡ Some c.in-Some.field-0 = sym
     (c.in-Some.ensures.live ∙ ap (λ xs. unless_freed (slice_get xs c.args.event)) c.deref.ensures.value) in
     rw (
       ← c.self.view_is,
-      is,
+      live,
       lt-ltb _ _ c.in_ok-set.ensures.fits,
-      c.added_until-added.ensures,
+      c.add_until.ensures,
+      same,
       c.last-order.ensures,
       c.in_ok-set.ensures.ok,
       c.rest_unless.ensures,

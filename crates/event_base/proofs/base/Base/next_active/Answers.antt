@@ -12,7 +12,7 @@ use Rattle.std.proofs.lemmas.Result.{err_from_is_err_and}
 use Rattle.event_base.specs.Turns.{next_event}
 use Rattle.event_base.specs.Calls.{IsAnswer, next_active}
 use Rattle.event_base.specs.Fires.{is_past_numbers}
-use Rattle.event_base.proofs.TiedLemmas.{slice_get-within}
+use Rattle.event_base.proofs.TiedLemmas.{slice_get-within, slice_get-get_or}
 use Rattle.event_base.proofs.FireLemmas.{next_event-is, next-there}
 use Rattle.event_base.proofs.CallLemmas.{next_active-call, next_active-none, next_fire-call, next_fire-none, answer-spent, call-ok}
 use Rattle.event_base.proofs.CallLemmas.{called_base, called-kept, if_err}
@@ -79,8 +79,8 @@ returns-in_err-timeout-clause-refused c =
     (answer-spent past (next_active b) (called_base b number c.in-Some-event_at.kept c.in-Some-active.active) p.0 step
     (p.2 ∙ c.in_err-timeout.ensures.refused)))
 
-pub index_mut-requires : goal.index_mut-requires
-index_mut-requires c =
+pub index_mut-called-requires : goal.index_mut-called-requires
+index_mut-called-requires c =
     let kept = c.self.invariant.kept in
     let front = front-of c.self.inside c.in-Some.number kept c.in-Some.ensures in
     omega (arith, front.within, c.self.inside.events.ok.0)
@@ -91,8 +91,10 @@ invariant_of-self-2 c =
     let number = c.in-Some.number in
     let front = front-of c.self.inside number c.self.invariant.kept c.in-Some.ensures in
     let is = kept-is c.in-Some-event_at.kept number c.deref.ensures.value c.in-Some-event_at.ensures in
+    let same : c.index_mut-called.result.now ≡ c.in-Some-event_at.kept = c.index_mut-called.ensures.value
+    ∙ slice_get-get_or c.self.inside.events.items number c.in-Some-event_at.kept c.index_mut-called.result.now is in
     record {
-      kept = rw (c.rest_front_unless.ensures, c.is_active.ensures, c.called-called.ensures)
+      kept = rw (c.rest_front_unless.ensures, c.is_active-stays.ensures, c.begin_call.ensures, same)
           (called-kept c.self.inside.events.items c.self.inside.deadlines c.set_again.new.deadlines c.self.inside.ready number
           c.in-Some-event_at.kept
           c.in-Some-active.active c.in_ok-timeout.timeout c.self.invariant.kept is c.in-Some-active.is c.in_ok-timeout.ensures.moments);
@@ -114,11 +116,14 @@ returns-clause-ok c =
     let number = c.in-Some.number in
     let front = front-of c.self.inside number c.self.invariant.kept c.in-Some.ensures in
     let is = kept-is c.in-Some-event_at.kept number c.deref.ensures.value c.in-Some-event_at.ensures in
+    let same : c.index_mut-called.result.now ≡ c.in-Some-event_at.kept = c.index_mut-called.ensures.value
+    ∙ slice_get-get_or c.self.inside.events.items number c.in-Some-event_at.kept c.index_mut-called.result.now is in
     let step = next_active-call b number c.in-Some-event_at.kept c.in-Some-active.active c.if-self.false front.next is c.in-Some-active.is
     ∙ call-ok b number c.in-Some-event_at.kept c.in-Some-active.active c.in_ok-timeout.ensures.fits in
     rw (
       ← c.self.view_is,
-      c.called-called.ensures,
+      c.begin_call.ensures,
+      same,
       c.in_ok-timeout.ensures.timeout,
       c.in_ok-timeout.ensures.last,
       c.set_again.ensures.delays,
