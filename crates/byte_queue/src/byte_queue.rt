@@ -1,7 +1,7 @@
 // Bytes in order, in one block all of whose bytes are initialized, so that bytes are written over others and what the block
 // is long is all the memory that is kept. The front is taken off by moving the start on; the bytes are moved down only
 // where at least three quarters of what lies before their end lie before the start, so that draining in pieces stays linear.
-ghost use Rattle.std.specs.Prelude.{◌≡◌, ◌≤◌, ◌<◌, ◌+◌, ◌-◌, ◌*◌, ◌^◌, ◌++◌, ◌⊎◌, [], length, drop, take, max, OnOk, OnErr, IfOk};
+ghost use Rattle.std.specs.Prelude.{◌≡◌, ◌≤◌, ◌<◌, ◌+◌, ◌-◌, ◌*◌, ◌^◌, ◌++◌, ◌⊎◌, [], length, drop, take, max, OnOk, OnErr, IfOk, IsOk};
 ghost use Rattle.std.specs.Prelude.{vec_len, vec_capacity};
 
 use std::alloc::{AllocError, Global};
@@ -92,6 +92,8 @@ impl ByteQueue {
         ensures room { OnOk result (n ≤ self.new.spare) }
         ensures kept { self.old.spare ≤ self.new.spare }
         ensures most { self.new.spare ≤ most_spare self.old.spare n (length self.old.items) }
+        ensures there { n ≤ self.old.spare → IsOk result }
+        ensures still { n ≤ self.old.spare → self.new ≡ self.old }
         ensures err { OnErr result (self.new ≡ self.old) }
     {
         if self.spare() >= n {
