@@ -9,7 +9,7 @@ use Rattle.std.proofs.lemmas.List.{get_or-set_same, get_or-set_other, map-set, s
 use Rattle.std.proofs.lemmas.List.Elements.{All-nil, All-cons, All-head, All-tail, All-weaker}
 use Rattle.std.proofs.Math.ListN.{get_or-map}
 use Rattle.std.proofs.Math.Nat.{le_refl}
-use Rattle.min_timer.specs.declared.timers.Timer.{Timer}
+use Rattle.min_timer.specs.declared.timer.Timer.{Timer}
 use Rattle.min_timer.specs.declared.key.TimerKey.{TimerKey}
 use Rattle.min_timer.specs.Queue.{number_of, is_timer_of, without, with_timer, first_deadline, due_keys}
 use Rattle.event_base.specs.declared.deadlines.Waiting.{Waiting}

@@ -1,7 +1,7 @@
 -- How the deadlines are kept: a timer for each, and beside them the handle of each event's timer.
 use Rattle.std.specs.Prelude.{◌≡◌, ◌≢◌, ℕ, ◌≤◌, List, map, Option, Some, All}
 use Rattle.std.specs.Option.{option_map}
-use Rattle.min_timer.specs.declared.timers.Timer.{Timer}
+use Rattle.min_timer.specs.declared.timer.Timer.{Timer}
 use Rattle.min_timer.specs.Queue.{number_of}
 use Rattle.event_base.specs.declared.deadlines.Waiting.{Waiting}
 use Rattle.event_base.specs.declared.deadlines.Deadlines.TheInside.{Inside}

@@ -8,7 +8,7 @@ use Rattle.std.proofs.lemmas.List.Elements.{All-weaker, All-filter, All-head, Al
 use Rattle.min_timer.specs.Queue.{TimerQueue, number_of, is_timer_of, after_due}
 use Rattle.min_timer.specs.Handles.{TimerCall, next_handle, after, after_all, reached, HandlesAreNew, HandlesStayGone}
 use Rattle.min_timer.specs.declared.key.TimerKey.{TimerKey}
-use Rattle.min_timer.specs.declared.timers.Timer.{Timer}
+use Rattle.min_timer.specs.declared.timer.Timer.{Timer}
 use Rattle.min_timer.proofs.OrderLemmas.{All-with_timer}
 use Rattle.min_timer.proofs.PlaceLemmas.{stamp_of_handle}
 

@@ -1,5 +1,4 @@
-pub mod KeptLemmas
+pub mod EarlierLemmas
 pub mod OrderLemmas
 pub mod PlaceLemmas
 pub mod HandleLemmas
-pub mod TreeLemmas

@@ -3,7 +3,7 @@ use Rattle.std.specs.Prelude.{ℕ, ◌==◌, ◌&&◌, Bool, not, nat_lt, nat_le
 use Rattle.std.specs.Prelude.{Option, Some, None}
 use Rattle.std.specs.List.{find, list_any}
 use Rattle.min_timer.specs.declared.key.TimerKey.{TimerKey}
-use Rattle.min_timer.specs.declared.timers.Timer.{Timer}
+use Rattle.min_timer.specs.declared.timer.Timer.{Timer}
 
 -- the timers that wait, by deadline and among equal deadlines by number, the number of the last one that was
 -- added, or 0, and the delays that were registered, in the order of registering

@@ -1,10 +1,13 @@
 //! Deadlines in order: timers that wait, and the first that is due. What an expiry means stands elsewhere.
 #![tactic(auto)]
 
+mod due;
 mod fault;
+mod heap;
 mod key;
 mod laws;
-mod moment;
+mod sift;
+mod timer;
 mod timers;
 
 pub use fault::TimerFault;

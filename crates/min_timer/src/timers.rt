@@ -1,29 +1,15 @@
-// The timers that wait, in a tree by their moments. The invariants:
-// 1. the timers rise by deadline, and among equal deadlines by stamp;
-// 2. the slot of each timer holds its deadline and its stamp;
-// 3. there are as many slots in use as timers;
-// 4. no stamp is above the last one that was given out.
+// The timers that wait, and the numbers that they have. The invariant: no stamp is above the last one that was given out.
 ghost use Rattle.std.specs.Prelude.{◌≡◌, ◌≢◌, ◌+◌, ◌^◌, ◌<◌, ◌≤◌, ◌↔◌, [], true, false, if◌then◌else◌, length, IfOk, IfErr, OnOk, OnErr};
 ghost use Rattle.std.specs.Option.{ok_or, option_map};
 
 use crate::fault::TimerFault;
+use crate::heap::Heap;
 use crate::key::TimerKey;
-use crate::moment::{Moment, Seat};
-use slab::Slab;
 use std::alloc::Global;
-use std::collections::BTreeMap;
 use std::marker::Model;
 
 /// The most delays that are registered, as libevent has them.
 const MAX_DELAYS: usize = 256;
-
-/// A timer that waits. Clauses speak of it; no call hands one out.
-#[derive(Clone, Copy)]
-pub struct Timer {
-    deadline: u64,
-    key: u64,
-    handle: TimerKey,
-}
 
 /// Timers that wait, in the order in which they come due: by deadline, in milliseconds, and among
 /// equal deadlines in the order in which they were added.
@@ -32,8 +18,7 @@ pub struct Timer {
 /// Differs: equal deadlines keep the order of adding.
 #[derive(Drop)]
 pub struct Timers {
-    order: BTreeMap<Moment, Seat>,
-    slots: Slab<Moment>,
+    heap: Heap,
     delays: Vec<u64>,
     last: u64,
 }
@@ -43,11 +28,11 @@ impl Model for Timers {
 
     ghost Value = { TimerQueue };
 
-    ghost use Rattle.min_timer.specs.Order.{timers_at, IsKept};
+    ghost use Rattle.std.specs.Prelude.{◌≤◌, All};
 
-    ghost view = { λ t. record { pending = timers_at t.order.entries; last = t.last; delays = t.delays.items } };
+    ghost view = { λ t. record { pending = t.heap; last = t.last; delays = t.delays.items } };
 
-    ghost invariant = { λ t. IsKept (timers_at t.order.entries) t.slots t.last };
+    ghost invariant = { λ t. All (λ timer. timer.handle.stamp ≤ t.last) t.heap };
 }
 
 impl Timers {
@@ -61,8 +46,7 @@ impl Timers {
         ensures delays { result.delays ≡ [] }
     {
         Timers {
-            order: BTreeMap::new(alloc),
-            slots: Slab::new(alloc),
+            heap: Heap::new(alloc),
             delays: Vec::new(alloc),
             last: 0,
         }
@@ -128,13 +112,9 @@ impl Timers {
         ensures delays { self.new.delays ≡ self.old.delays }
     {
         let stamp = self.last.checked_add(1).ok_or(TimerFault::Spent)?;
-        self.slots.reserve(1)?;
-        let moment = Moment { deadline, stamp };
-        let slot = self.slots.vacant_key();
-        self.order.insert(moment, Seat { key, slot })?;
-        let slot = self.slots.insert_reserved(moment);
+        let timer = self.heap.push(deadline, stamp, key)?;
         self.last = stamp;
-        Ok(TimerKey { slot, stamp })
+        Ok(timer)
     }
 
     /// Adds a timer that comes due so long after now, both in milliseconds: what `add` does with their
@@ -173,36 +153,9 @@ impl Timers {
         ensures last { self.new.last ≡ self.old.last }
         ensures delays { self.new.delays ≡ self.old.delays }
     {
-        let Some(found) = self.timer_of(timer) else {
-            return Err(TimerFault::NotPending);
-        };
-        let moment = Moment {
-            deadline: found.deadline,
-            stamp: timer.stamp,
-        };
-        let _ = self.order.remove(&moment);
-        let _ = self.slots.try_remove(timer.slot);
-        Ok(found.key)
-    }
-
-    // The timer that waits under this handle.
-    fn timer_of(&self, timer: TimerKey) -> Option<Timer>
-        ensures { result ≡ timer_of timer self.now.pending }
-    {
-        let moment = *self.slots.get(timer.slot)?;
-        let seat = *self.order.get(&moment)?;
-        let found = Timer {
-            deadline: moment.deadline,
-            key: seat.key,
-            handle: TimerKey {
-                slot: seat.slot,
-                stamp: moment.stamp,
-            },
-        };
-        if found.handle == timer {
-            Some(found)
-        } else {
-            None
+        match self.heap.remove(timer) {
+            Some(found) => Ok(found.key),
+            None => Err(TimerFault::NotPending),
         }
     }
 
@@ -211,10 +164,7 @@ impl Timers {
     pub fn next_deadline(&self) -> Option<u64>
         ensures { result ≡ first_deadline self.now.pending }
     {
-        match self.order.first_key_value() {
-            Some((moment, _)) => Some(moment.deadline),
-            None => None,
-        }
+        Some(self.heap.first()?.deadline)
     }
 
     /// The keys of the timers whose deadline is at most this time, in milliseconds, in the order in which
@@ -223,14 +173,7 @@ impl Timers {
         ensures keys { IfOk result (λ keys. keys.items ≡ due_keys time self.now.pending) }
         ensures refused { IfErr result (λ fault. fault ≡ TimerFault.Memory) }
     {
-        let mut keys = Vec::new(alloc);
-        for (moment, seat) in &self.order {
-            if moment.deadline > time {
-                break;
-            }
-            keys.push(seat.key)?;
-        }
-        Ok(keys)
+        Ok(self.heap.due(alloc, time)?)
     }
 
     /// Takes out the first timer whose deadline is at most now, in milliseconds, and answers its key
@@ -241,11 +184,10 @@ impl Timers {
         ensures last { self.new.last ≡ self.old.last }
         ensures delays { self.new.delays ≡ self.old.delays }
     {
-        if self.next_deadline()? > now {
+        if self.heap.first()?.deadline > now {
             return None;
         }
-        let (moment, seat) = self.order.pop_first()?;
-        let _ = self.slots.try_remove(seat.slot);
-        Some((seat.key, moment.deadline))
+        let first = self.heap.pop()?;
+        Some((first.key, first.deadline))
     }
 }

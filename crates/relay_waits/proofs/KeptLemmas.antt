@@ -10,7 +10,7 @@ use Rattle.std.proofs.lemmas.List.Elements.{All-nil, All-cons}
 use Rattle.ev_types.specs.declared.side.SideId.{SideId}
 use Rattle.ev_types.specs.Sides.{number}
 use Rattle.min_timer.specs.declared.key.TimerKey.{TimerKey}
-use Rattle.min_timer.specs.declared.timers.Timer as by_number
+use Rattle.min_timer.specs.declared.timer.Timer as by_number
 use Rattle.min_timer.specs.Queue.{is_timer_of, without, with_timer, first_due, after_due}
 use Rattle.relay_model.specs.Plain.{Timer, placed, without_timer}
 use Rattle.relay_waits.specs.Numbered.{side_numbered}

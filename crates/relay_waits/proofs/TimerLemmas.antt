@@ -8,7 +8,7 @@ use Rattle.std.proofs.lemmas.List.Elements.{All-head, All-tail}
 use Rattle.ev_types.specs.declared.side.SideId.{SideId}
 use Rattle.ev_types.specs.Sides.{number, same_end}
 use Rattle.min_timer.specs.declared.key.TimerKey.{TimerKey}
-use Rattle.min_timer.specs.declared.timers.Timer as by_number
+use Rattle.min_timer.specs.declared.timer.Timer as by_number
 use Rattle.min_timer.specs.Queue.{is_timer_of, without, with_timer, after_due, due_keys}
 use Rattle.relay_model.specs.Plain.{Timer, placed, without_timer}
 use Rattle.token_bucket.specs.Spells.{least_with}

@@ -3,7 +3,7 @@ use Rattle.std.specs.Prelude.{◌≡◌, ℕ, ◌≤◌, ◌<◌, ◌^◌, nat_e
 use Rattle.std.specs.List.{AllByRecursion}
 use Rattle.std.specs.Map.{lookup}
 use Rattle.min_timer.specs.declared.key.TimerKey.{TimerKey}
-use Rattle.min_timer.specs.declared.timers.Timer as by_number
+use Rattle.min_timer.specs.declared.timer.Timer as by_number
 use Rattle.relay_model.specs.Plain.{Timer}
 use Rattle.relay_waits.specs.TimerSides.{timers_of}
 use Rattle.relay_waits.specs.TimerLaws.{DeadlinesRise}

@@ -4,7 +4,7 @@ use Rattle.std.specs.List.{AllByRecursion}
 use Rattle.ev_types.specs.declared.side.SideId.{SideId}
 use Rattle.ev_types.specs.Sides.{number}
 use Rattle.min_timer.specs.declared.key.TimerKey.{TimerKey}
-use Rattle.min_timer.specs.declared.timers.Timer as by_number
+use Rattle.min_timer.specs.declared.timer.Timer as by_number
 use Rattle.min_timer.specs.Queue.{is_timer_of, without, with_timer, first_deadline, first_due, after_due, due_keys}
 use Rattle.relay_model.specs.Plain.{placed, without_timer}
 use Rattle.relay_model.specs.Moments.{earliest}

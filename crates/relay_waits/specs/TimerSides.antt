@@ -1,6 +1,6 @@
 -- The timers that wait under a key, as the relay's model has them by side: the key is the side's number.
 use Rattle.std.specs.Prelude.{List, map}
-use Rattle.min_timer.specs.declared.timers.Timer as by_number
+use Rattle.min_timer.specs.declared.timer.Timer as by_number
 use Rattle.relay_model.specs.Plain.{Timer}
 use Rattle.relay_waits.specs.Numbered.{side_numbered}
 

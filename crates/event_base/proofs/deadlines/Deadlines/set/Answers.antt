@@ -1,7 +1,7 @@
 -- The new timer stands beside the others, and an old one goes.
 use Rattle.std.proofs.Common.{◌≡◌, ◌+◌, ◌<◌, ◌∙◌, ap, sym, set, length, Option, None, Some, option_map, arith}
 use Rattle.std.proofs.lemmas.List.{map-set, length-map}
-use Rattle.min_timer.specs.declared.timers.Timer.{Timer}
+use Rattle.min_timer.specs.declared.timer.Timer.{Timer}
 use Rattle.event_base.specs.declared.deadlines.Waiting.{Waiting}
 use Rattle.event_base.specs.Rising.{at}
 use Rattle.event_base.specs.Deadlines.{Moment}

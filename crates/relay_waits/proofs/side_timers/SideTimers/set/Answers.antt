@@ -1,6 +1,6 @@
 use Rattle.std.proofs.Common.{◌≡◌, ◌∙◌, refl, sym, ap, cond, nat_eq, Some, None}
 use Rattle.std.specs.Map.{lookup}
-use Rattle.min_timer.specs.declared.timers.Timer as by_number
+use Rattle.min_timer.specs.declared.timer.Timer as by_number
 use Rattle.min_timer.specs.Queue.{with_timer, without}
 use Rattle.relay_model.specs.Plain.{placed, without_timer}
 use Rattle.relay_waits.specs.TimerSides.{timers_of}
