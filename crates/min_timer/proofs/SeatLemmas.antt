@@ -1,9 +1,10 @@
 -- The place of each timer in its slot, when timers go to other places, come in and go out.
 use Rattle.std.proofs.Common.{◌≡◌, ◌≢◌, ◌∙◌, sym, ap, ℕ, ◌+◌, ◌<◌, List, [], ◌∷◌, ◌++◌, length, get_or, arith, cond, is_some, Some, None}
-use Rattle.std.proofs.Common.{inl, inr, ◌⊎◌}
+use Rattle.std.proofs.Common.{inl, inr, ◌⊎◌, refl}
 use Rattle.std.specs.List.{swap}
 use Rattle.std.proofs.lemmas.Bool.{cases_eq}
-use Rattle.std.proofs.lemmas.List.{get_or_default}
+use Rattle.std.proofs.lemmas.List.{get_or_default, get_or_append_left, length-append}
+use Rattle.std.proofs.Math.Seq.{get_or-append_seam}
 use Rattle.std.proofs.lemmas.List.Edits.{swapped_from_swap, length-swap}
 use Rattle.std.proofs.lemmas.List.Sums.{sum_by-set}
 use Rattle.slab.specs.Slab.{Slab, get, slab_len, with_value, Updates}
@@ -81,3 +82,19 @@ module _ (xs ys : List Timer) (s : Slab ℕ) (a b : ℕ) (seated : AreSeated xs 
           (last.others (get_or ys at d).handle.slot (λ same. neither (let two : Some at ≡ Some a = sym held ∙ ap (get s) same ∙ second_slot in cc))
           ∙ first.others (get_or ys at d).handle.slot (λ same. other (let two : Some at ≡ Some b = sym held ∙ ap (get s) same ∙ first_slot in cc))
           ∙ held)
+
+-- once the last timer is out and its slot is free, the others are in theirs
+pub seated-without_last : (zs : List Timer) (t : Timer) (s new : Slab ℕ) → AreSeated (zs ++ t ∷ []) s
+    → Updates s new t.handle.slot None → AreSeated zs new
+seated-without_last zs t s new seated updates = λ at d within.
+    let there : get s (get_or zs at d).handle.slot ≡ Some at =
+        ap (λ x. get s x.handle.slot) (sym (get_or_append_left zs (t ∷ []) d at within))
+        ∙ seated at d (omega (arith, within, length-append zs (t ∷ []))) in
+    let last : get s t.handle.slot ≡ Some (length zs) =
+        ap (λ x. get s x.handle.slot) (sym (get_or-append_seam zs t [] d))
+        ∙ seated (length zs) d (omega (arith, length-append zs (t ∷ []))) in
+    updates.others (get_or zs at d).handle.slot (λ same.
+    let one : Some at ≡ Some (length zs) = sym there ∙ ap (get s) same ∙ last in
+    let place : at ≡ length zs = cc in
+    omega (arith, within, place))
+    ∙ there

@@ -1,5 +1,5 @@
 // A heap of timers in a list, where the slot of each timer holds its place: how timers go to other places.
-ghost use Rattle.std.specs.Prelude.{◌≡◌, ◌≢◌, ◌+◌, ◌<◌, ℕ, ◌∷◌, false, length, get_or, IsPermutation, All, IfSome, IfNone, vec_len, vec_capacity};
+ghost use Rattle.std.specs.Prelude.{◌≡◌, ◌≢◌, ◌+◌, ◌<◌, ℕ, [], ◌∷◌, ◌++◌, false, length, get_or, IsPermutation, All, IfSome, IfNone, vec_len, vec_capacity};
 ghost use Rattle.std.specs.List.{swap};
 ghost use Rattle.slab.specs.Slab.{get, slab_len, HasRoomFor};
 ghost use Rattle.min_timer.specs.Order.{is_earlier, above, IsHeap, IsHeapBut, MayRise, MaySink, AreSeated, IsKept};
@@ -107,12 +107,24 @@ pub(crate) fn take(timers: &mut Vec<Timer>, places: &mut Slab<usize>, at: usize)
 {
     let last = timers.len() - 1;
     exchange(timers, places, at, last);
-    let taken = timers.pop().unwrap();
-    let _ = places.try_remove(taken.handle.slot);
+    let taken = take_last(timers, places);
     if at < last {
         settle(timers, places, at);
     }
     taken
+}
+
+/// Takes the timer at the last place out, and frees its slot.
+fn take_last(timers: &mut Vec<Timer>, places: &mut Slab<usize>) -> Timer
+    requires some { 0 < length timers.old.items }
+    requires seated { AreSeated timers.old.items places.old }
+    ensures items { timers.old.items ≡ timers.new.items ++ result ∷ [] }
+    ensures seated { AreSeated timers.new.items places.new }
+    ensures count { slab_len places.new + 1 ≡ slab_len places.old }
+{
+    let last = timers.pop().unwrap();
+    let _ = places.try_remove(last.handle.slot);
+    last
 }
 
 /// Adds a timer whose stamp is above all others, and hands out its handle.
