@@ -1,9 +1,9 @@
 -- A heap of timers: a step of a timer up or down, when it has come to its place, and what an edit of the list leaves of the heap.
-use Rattle.std.proofs.Common.{◌≡◌, ◌≢◌, ap, ℕ, zero, suc, ◌+◌, ◌<◌, ◌≤◌, true, false, List, [], ◌∷◌, ◌++◌, length, get_or, arith, inl, inr}
-use Rattle.std.proofs.Common.{length-append, ◌∙◌}
+use Rattle.std.proofs.Common.{◌≡◌, ◌≢◌, ◌∙◌, ap, ℕ, zero, suc, ◌+◌, ◌<◌, ◌≤◌, Bool, true, false, List, [], ◌∷◌, ◌++◌, length, get_or}
+use Rattle.std.proofs.Common.{arith, inl, inr, length-append}
 use Rattle.std.specs.List.{swap}
 use Rattle.std.proofs.lemmas.Bool.{cases_eq, false_from_ne_true}
-use Rattle.std.proofs.lemmas.List.{get_or_append_left}
+use Rattle.std.proofs.lemmas.List.{get_or_append_left, get_or_default}
 use Rattle.std.proofs.lemmas.List.Edits.{swapped_from_swap, length-swap}
 use Rattle.min_timer.specs.Order.{is_earlier, above, IsHeap, MayRise, MaySink, IsHeapBut}
 use Rattle.min_timer.specs.declared.timer.Timer.{Timer}
@@ -16,6 +16,15 @@ IsEarlierAt xs i j = (d : Timer) → is_earlier (get_or xs i d) (get_or xs j d) 
 -- the timer at the first place does not come due before the one at the second
 abbrev pub IsNotEarlierAt : List Timer → ℕ → ℕ → Type 0
 IsNotEarlierAt xs i j = (d : Timer) → is_earlier (get_or xs i d) (get_or xs j d) ≡ false
+
+-- the timer that code reads where a place is past the end
+abbrev pub no_timer : Timer
+no_timer = record { deadline = 0; key = 0; handle = record { slot = 0; stamp = 0 } }
+
+-- what a test of the timers at two places gave, at any default
+pub tested_at : (xs : List Timer) (i j : ℕ) (b : Bool) → i < length xs → j < length xs
+    → is_earlier (get_or xs i no_timer) (get_or xs j no_timer) ≡ b → (d : Timer) → is_earlier (get_or xs i d) (get_or xs j d) ≡ b
+tested_at xs i j b il jl h d = rw (get_or_default xs i d no_timer il, get_or_default xs j d no_timer jl) h
 
 -- two places have each other's timer, and all others their own
 abbrev pub AreExchanged : List Timer → List Timer → ℕ → ℕ → Type 0
@@ -111,6 +120,14 @@ pub sink-done : (xs : List Timer) (at : ℕ) → MaySink xs at
     → ((k : ℕ) (d : Timer) → 0 < k → k < length xs → above k ≡ at → is_earlier (get_or xs k d) (get_or xs at d) ≡ false) → IsHeap xs
 sink-done xs at may below k d k0 kl =
     elim (cases_eq (above k) at) [ inl ua ↦ rw ua (below k d k0 kl ua) | inr una ↦ may.under k una d k0 kl ]
+
+-- the first of the timers below does not come before the timer: it has sunk
+pub sink-done-first : (xs : List Timer) (at c : ℕ) → MaySink xs at
+    → ((k : ℕ) (d : Timer) → 0 < k → k < length xs → above k ≡ at → is_earlier (get_or xs k d) (get_or xs c d) ≡ false)
+    → IsNotEarlierAt xs c at → IsHeap xs
+sink-done-first xs at c may others last =
+    sink-done xs at may (λ k d k0 kl ua.
+    not_earlier-trans (get_or xs k d) (get_or xs c d) (get_or xs at d) (others k d k0 kl ua) (last d))
 
 -- the timer at the place comes before the one above it: it may rise
 pub but-rises : (xs : List Timer) (at : ℕ) → IsHeapBut xs at → 0 < at → IsEarlierAt xs at (above at) → MayRise xs at
