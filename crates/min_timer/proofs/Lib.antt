@@ -1,4 +1,5 @@
 pub mod EarlierLemmas
+pub mod HeapLemmas
 pub mod OrderLemmas
 pub mod PlaceLemmas
 pub mod SeatLemmas
