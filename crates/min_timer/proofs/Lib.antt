@@ -3,4 +3,5 @@ pub mod HeapLemmas
 pub mod OrderLemmas
 pub mod PlaceLemmas
 pub mod SeatLemmas
+pub mod TakeLemmas
 pub mod HandleLemmas

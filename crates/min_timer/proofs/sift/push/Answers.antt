@@ -1,14 +1,14 @@
-use Rattle.std.proofs.Common.{rules, ◌≡◌, ◌≢◌, ◌+◌, ◌<◌, ℕ, ◌∷◌, false, length, get_or, IsPermutation, All, IfSome, IfNone, vec_len, vec_capacity, ◌-◌, ◌*◌, ◌≤◌, ◌/◌, ◌%◌, Bool, true, nat_eq, nat_lt, List, [], ◌++◌, slice_set, bit_and, bit_or, Fits, w8, w32, w64, Bor, MutBor}
+use Rattle.std.proofs.Common.{rules, ◌≡◌, ◌≢◌, ◌+◌, ◌<◌, ℕ, [], ◌∷◌, ◌++◌, false, length, get_or, IsPermutation, All, IfSome, IfNone, vec_len, vec_capacity, ◌-◌, ◌*◌, ◌≤◌, ◌/◌, ◌%◌, Bool, true, nat_eq, nat_lt, List, slice_set, bit_and, bit_or, Fits, w8, w32, w64, Bor, MutBor}
 use Rattle.std.specs.List.{swap}
 use Rattle.slab.specs.Slab.{get, slab_len, HasRoomFor}
 use Rattle.min_timer.specs.Order.{is_earlier, above, IsHeap, IsHeapBut, MayRise, MaySink, AreSeated, IsKept}
 use Rattle.min_timer.specs.declared.timer.Timer.{Timer}
 use Rattle.min_timer.proofs.sift.push.Goals as goal
 
--- src/sift.rt:119:1
+-- src/sift.rt:131:1
 pub returns-clause-pushed : goal.returns-clause-pushed
 returns-clause-pushed c = ?
 
--- src/sift.rt:119:1
+-- src/sift.rt:131:1
 pub returns-clause-kept : goal.returns-clause-kept
 returns-clause-kept c = ?
