@@ -1,5 +1,5 @@
 -- What is left of a heap once a timer is out that was exchanged with the last, and what a timer that came in makes of it.
-use Rattle.std.proofs.Common.{◌≡◌, ◌∙◌, sym, ap, subst, ℕ, ◌+◌, ◌<◌, ◌≢◌, List, [], ◌∷◌, ◌++◌, length, get_or, take, arith, IsPermutation, length-append}
+use Rattle.std.proofs.Common.{◌≡◌, ◌∙◌, sym, ap, subst, ℕ, ◌+◌, ◌<◌, ◌≤◌, ◌≢◌, List, [], ◌∷◌, ◌++◌, length, get_or, take, arith, IsPermutation, length-append}
 use Rattle.std.specs.List.{swap}
 use Rattle.std.proofs.Math.Seq.{take-append_seam}
 use Rattle.std.proofs.lemmas.List.{get_or_append_left}
@@ -32,14 +32,13 @@ module _ (xs zs : List Timer) (t : Timer) (at last : ℕ) (here : at < length xs
       (IsPermutation-swap xs (zs ++ t ∷ []) at last here (omega (arith, end)) is) (IsPermutation-to_front zs t)
 
   -- the last timer may not belong at its new place
-  pub but_there : IsHeap xs → at < last → IsHeapBut zs at
-  but_there heap before = but-removed xs zs at heap (omega (arith, before, end, one_less)) (omega (arith, one_less)) same
+  pub but_there : IsHeap xs → at < length zs → IsHeapBut zs at
+  but_there heap before = but-removed xs zs at heap before (omega (arith, one_less)) same
 
   -- the last timer leaves a heap
-  pub heap_left : IsHeap xs → at ≡ last → IsHeap zs
-  heap_left heap at_end =
-      heap-shorter xs zs heap (omega (arith, one_less))
-      (λ k d within. same k d (λ e. omega (arith, e, at_end, within, end, one_less)) within)
+  pub heap_left : IsHeap xs → length zs ≤ at → IsHeap zs
+  heap_left heap beyond =
+      heap-shorter xs zs heap (omega (arith, one_less)) (λ k d within. same k d (λ e. omega (arith, e, beyond, within)) within)
 
   pub own_stamps_left : HaveOwnStamps xs → HaveOwnStamps zs
   own_stamps_left own = own_stamps-rest t zs (own_stamps-permutation xs (t ∷ zs) parts own)

@@ -1,8 +1,8 @@
 // A heap of timers in a list, where the slot of each timer holds its place: how timers go to other places.
-ghost use Rattle.std.specs.Prelude.{◌≡◌, ◌≢◌, ◌+◌, ◌<◌, ℕ, [], ◌∷◌, ◌++◌, false, length, get_or, IsPermutation, All, IfSome, IfNone, vec_len, vec_capacity};
+ghost use Rattle.std.specs.Prelude.{◌≡◌, ◌≢◌, ◌+◌, ◌<◌, ◌≤◌, ℕ, [], ◌∷◌, ◌++◌, false, length, get_or, IsPermutation, All, IfSome, IfNone, vec_len, vec_capacity};
 ghost use Rattle.std.specs.List.{swap};
 ghost use Rattle.slab.specs.Slab.{get, slab_len, HasRoomFor};
-ghost use Rattle.min_timer.specs.Order.{is_earlier, above, IsHeap, IsHeapBut, MayRise, MaySink, AreSeated, IsKept};
+ghost use Rattle.min_timer.specs.Order.{is_earlier, above, IsHeap, IsHeapBut, MayRise, MaySink, AreSeated, HaveOwnStamps, IsKept};
 ghost use Rattle.min_timer.specs.declared.timer.Timer.{Timer};
 
 use crate::key::TimerKey;
@@ -105,13 +105,28 @@ pub(crate) fn take(timers: &mut Vec<Timer>, places: &mut Slab<usize>, at: usize)
     ensures rest { IsPermutation timers.old.items (result ∷ timers.new.items) }
     ensures kept { IsKept timers.new.items places.new }
 {
-    let last = timers.len() - 1;
-    exchange(timers, places, at, last);
-    let taken = take_last(timers, places);
-    if at < last {
+    let taken = take_out(timers, places, at);
+    if at < timers.len() {
         settle(timers, places, at);
     }
     taken
+}
+
+/// Takes the timer at the place out, to which the last one goes, which may not belong there.
+fn take_out(timers: &mut Vec<Timer>, places: &mut Slab<usize>, at: usize) -> Timer
+    requires bounds { at < length timers.old.items }
+    requires kept { IsKept timers.old.items places.old }
+    ensures taken { (d : Timer) → result ≡ get_or timers.old.items at d }
+    ensures rest { IsPermutation timers.old.items (result ∷ timers.new.items) }
+    ensures own_stamps { HaveOwnStamps timers.new.items }
+    ensures but { at < length timers.new.items → IsHeapBut timers.new.items at }
+    ensures heap { length timers.new.items ≤ at → IsHeap timers.new.items }
+    ensures seated { AreSeated timers.new.items places.new }
+    ensures count { slab_len places.new ≡ length timers.new.items }
+{
+    let last = timers.len() - 1;
+    exchange(timers, places, at, last);
+    take_last(timers, places)
 }
 
 /// Takes the timer at the last place out, and frees its slot.
