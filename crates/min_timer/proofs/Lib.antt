@@ -2,3 +2,4 @@ pub mod EarlierLemmas
 pub mod OrderLemmas
 pub mod PlaceLemmas
 pub mod HandleLemmas
+pub mod DueLemmas
