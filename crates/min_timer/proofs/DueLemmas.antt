@@ -1,16 +1,26 @@
 -- The timers that are due, as a walk down a heap finds them: their places rise, and in the end none is left out.
-use Rattle.std.proofs.Common.{◌≡◌, ◌∙◌, sym, ap, refl, subst, ℕ, zero, suc, ◌+◌, ◌*◌, ◌<◌, ◌≤◌, ◌&&◌, nat_lt, nat_le, arith}
-use Rattle.std.proofs.Common.{List, [], ◌∷◌, ◌++◌, length, get_or, append_assoc, length-append, All, Contains, false, ◌⊎◌, inl, inr}
+use Rattle.std.proofs.Common.{◌≡◌, ◌∙◌, sym, ap, refl, subst, ℕ, zero, suc, ◌+◌, ◌*◌, ◌<◌, ◌≤◌, ◌&&◌, ◌||◌, ◌==◌, nat_lt, nat_le, arith}
+use Rattle.std.proofs.Common.{Bool, true, false, if◌then◌else◌, ◌⊎◌, inl, inr, Ordering, is_lt, nat_cmp, IsPermutation}
+use Rattle.std.proofs.Common.{List, [], ◌∷◌, ◌++◌, length, get_or, map, filter, append_assoc, length-append, All, Contains}
+use Rattle.std.specs.Cmp.{IsStrictWeakOrder}
 use Rattle.std.specs.List.{AllPairs}
-use Rattle.std.proofs.lemmas.Bool.{cond_both, and_parts, ltb-true, leb-true}
+use Rattle.std.specs.List.Sorted.{IsSortedBy}
+use Rattle.std.specs.Ordering.{ordering_then}
+use Rattle.std.proofs.lemmas.Bool.{cond_both, and_parts, ltb-true, leb-true, le-leb}
 use Rattle.std.proofs.lemmas.Bool.Decides.{nat_tests}
-use Rattle.std.proofs.lemmas.List.{get_or_append_left, get_or_default, get_or_read, append-nil}
-use Rattle.std.proofs.lemmas.List.Elements.{All-nil, All-push, All-weaker, Contains-append_left, Contains-append_right, Contains-push}
+use Rattle.std.proofs.lemmas.List.{get_or_append_left, get_or_default, get_or_read, append-nil, get_or-map, length-map}
+use Rattle.std.proofs.lemmas.List.Elements.{All-nil, All-cons, All-head, All-tail, All-push, All-weaker, All-map, All-filter, All-get_or}
+use Rattle.std.proofs.lemmas.List.Elements.{All-contains, filter_passes, Contains-append_left, Contains-append_right, Contains-push}
+use Rattle.std.proofs.lemmas.List.Kept.{AllPairs-filter}
 use Rattle.std.proofs.lemmas.List.Quantifiers.{all_pairs_push}
+use Rattle.std.proofs.lemmas.List.Sorted.{All-permutation, Contains-permutation, IsPermutation-map, sorted_far}
 use Rattle.min_timer.specs.Due.{timer_in, entry_at, IsDueAt, due_at, AreDue, AreAllDue}
-use Rattle.min_timer.specs.Order.{is_earlier, above, IsHeap}
+use Rattle.min_timer.specs.Order.{is_earlier, IsEarlier, above, IsHeap, HaveOwnStamps, in_order}
+use Rattle.min_timer.specs.Queue.{due_keys}
 use Rattle.min_timer.specs.declared.due.Due.{Due}
 use Rattle.min_timer.specs.declared.timer.Timer.{Timer}
+use Rattle.min_timer.proofs.EarlierLemmas.{earlier-asym, earlier-total, not_earlier-trans}
+use Rattle.min_timer.proofs.OrderLemmas.{own_stamps-permutation, All-in_order, All-from_in_order, rising-in_order, rising-unique}
 
 -- what a place adds is the timer that is due there, or nothing
 due_at-cases : (P : List Due → Type 0) (timers : List Timer) (now at : ℕ) → (IsDueAt timers now at → P (entry_at timers at ∷ [])) → P [] →
@@ -179,3 +189,157 @@ pub next-within : (timers : List Timer) (now : ℕ) (due : List Due) (next : ℕ
     e ≡ get_or due next e → (next ≤ e.place) × (e.place < length timers)
 next-within timers now due next e walk l is =
     (rw is (index-le due next e walk.are.rising l), rw is ((walk.are.each next e l).0.0))
+
+-- the timers of entries
+abbrev timers_of : List Timer → List Due → List Timer
+timers_of timers due = map (λ e. timer_in timers e.place) due
+
+-- the entry is that of its place, where a timer is due
+abbrev IsEntry : List Timer → ℕ → Due → Type 0
+IsEntry timers now e = IsDueAt timers now e.place × (e ≡ entry_at timers e.place)
+
+timers_of-at : (timers : List Timer) (due : List Due) (k : ℕ) (d : Timer) (e : Due) → k < length due →
+    get_or (timers_of timers due) k d ≡ timer_in timers (get_or due k e).place
+timers_of-at timers due k d e h = get_or-map (λ x. timer_in timers x.place) due k e d h
+
+-- entries that stand at places of their own have timers with stamps of their own
+own_stamps-due : (timers : List Timer) (now : ℕ) (due : List Due) → HaveOwnStamps timers → AreDue timers now due →
+    HaveOwnStamps (timers_of timers due)
+own_stamps-due timers now due own are = λ i j d l h.
+    let none = entry_at timers 0 in
+    let within : j < length due = rw length-map at h in
+    let first : i < length due = omega arith in
+    rw (timers_of-at timers due i d none first, timers_of-at timers due j d none within)
+    (own (get_or due i none).place (get_or due j none).place _ (are.rising i j none l within) (are.each j none within).0.0)
+
+-- how the sort compares entries
+abbrev due_cmp : Due → Due → Ordering
+due_cmp a b =
+    ordering_then (nat_cmp a.deadline b.deadline)
+    (ordering_then (nat_cmp a.stamp b.stamp) (ordering_then (nat_cmp a.key b.key) (nat_cmp a.place b.place)))
+
+abbrev entry_is_earlier : Due → Due → Bool
+entry_is_earlier a b = nat_lt a.deadline b.deadline || (a.deadline == b.deadline && nat_lt a.stamp b.stamp)
+
+not_less : (a b : Due) → is_lt (due_cmp a b) ≡ false → entry_is_earlier a b ≡ false
+not_less a b h = grind (arith, nat_tests)
+
+-- and so the timers of them
+not_earlier : (timers : List Timer) (a b : Due) → a ≡ entry_at timers a.place → b ≡ entry_at timers b.place →
+    is_lt (due_cmp a b) ≡ false → is_earlier (timer_in timers a.place) (timer_in timers b.place) ≡ false
+not_earlier timers a b of_a of_b h =
+    subst (λ y. entry_is_earlier (entry_at timers a.place) y ≡ false) of_b
+    (subst (λ x. entry_is_earlier x b ≡ false) of_a (not_less a b h))
+
+earlier-order : IsStrictWeakOrder is_earlier
+earlier-order = record { one_way = earlier-asym; chain = not_earlier-trans }
+
+-- sorted entries have timers that come each before the later ones
+rising-sorted : (timers : List Timer) (now : ℕ) (due : List Due) → HaveOwnStamps (timers_of timers due) → All (IsEntry timers now) due →
+    IsSortedBy (λ a b. is_lt (due_cmp a b)) due → AllPairs IsEarlier (timers_of timers due)
+rising-sorted timers now due own each sorted = λ i j d l h.
+    earlier-total (get_or (timers_of timers due) j d) (get_or (timers_of timers due) i d) (λ same. own i j d l h (sym same))
+    (sorted_far is_earlier earlier-order (timers_of timers due) neighbours i j d (omega arith) h)
+  where
+    none : Due
+    none = entry_at timers 0
+
+    neighbours : IsSortedBy is_earlier (timers_of timers due)
+    neighbours = λ k d low h.
+        let later : k + 1 < length due = rw length-map at h in
+        let first : k < length due = omega arith in
+        rw (timers_of-at timers due (k + 1) d none later, timers_of-at timers due k d none first)
+        (not_earlier timers (get_or due (k + 1) none) (get_or due k none) (each (k + 1) none later).1 (each k none first).1
+        (sorted k none low later))
+
+-- what holds of what a map gives holds of what it gives at each
+All-from_map : {X Y : Type 0} (f : X → Y) (P : Y → Type 0) (xs : List X) → All P (map f xs) → All (λ x. P (f x)) xs
+All-from_map f P xs all = λ k d h. subst P (get_or-map f xs k d (f d) h) (all k (f d) (rw length-map h))
+
+-- what holds of what a filter keeps holds of all that pass
+All-from_filter : {X : Type 0} (p : X → Bool) (P : X → Type 0) (xs : List X) → All P (filter p xs) → All (λ x. p x ≡ true → P x) xs
+All-from_filter p P [] all = All-nil (λ x. p x ≡ true → P x)
+All-from_filter {X} p P (x ∷ xs) all = go (All-from_filter p P xs) (p x) refl all
+  where
+    go : (All P (filter p xs) → All (λ y. p y ≡ true → P y) xs) → (b : Bool) → p x ≡ b →
+        All P (if b then x ∷ filter p xs else filter p xs) → All (λ y. p y ≡ true → P y) (x ∷ xs)
+    go rest true is h =
+        All-cons (λ y. p y ≡ true → P y) x xs (λ _. All-head P x (filter p xs) h) (rest (All-tail P x (filter p xs) h))
+    go rest false is h = All-cons (λ y. p y ≡ true → P y) x xs (λ yes. absurd (cc)) (rest h)
+
+-- a filter that passes none keeps none
+filter-none : {X : Type 0} (p : X → Bool) (xs : List X) → All (λ x. p x ≡ false) xs → filter p xs ≡ []
+filter-none p [] none = refl
+filter-none p (x ∷ xs) none =
+    ap (λ b. if b then x ∷ filter p xs else filter p xs) (All-head (λ y. p y ≡ false) x xs none)
+    ∙ filter-none p xs (All-tail (λ y. p y ≡ false) x xs none)
+
+abbrev is_due : ℕ → Timer → Bool
+is_due now timer = nat_le timer.deadline now
+
+-- of timers that come each before the later ones those that are due stand in front
+due_keys-filter : (now : ℕ) (xs : List Timer) → AllPairs IsEarlier xs → due_keys now xs ≡ map (λ t. t.key) (filter (is_due now) xs)
+due_keys-filter now [] rising = refl
+due_keys-filter now (x ∷ xs) rising =
+    go (due_keys-filter now xs (λ i j d l h. rising (suc i) (suc j) d (omega arith) (omega arith))) (is_due now x) refl
+  where
+    later_not_due : (t : Timer) → is_earlier x t ≡ true → is_due now x ≡ false → is_due now t ≡ false
+    later_not_due t before is = grind (arith, nat_tests)
+
+    go : due_keys now xs ≡ map (λ t. t.key) (filter (is_due now) xs) → (b : Bool) → is_due now x ≡ b →
+        (if b then x.key ∷ due_keys now xs else []) ≡
+        map (λ t. t.key) (if b then x ∷ filter (is_due now) xs else filter (is_due now) xs)
+    go rest true is = ap (λ ks. x.key ∷ ks) rest
+    go rest false is =
+        ap (map (λ t. t.key)) (sym (filter-none (is_due now) xs (λ k d h. later_not_due (get_or xs k d)
+        (rising 0 (suc k) d (omega arith) (omega arith)) is)))
+
+-- the keys of entries are those of their timers
+keys-timers_of : (timers : List Timer) (due : List Due) → All (λ e. e ≡ entry_at timers e.place) due →
+    map (λ e. e.key) due ≡ map (λ t. t.key) (timers_of timers due)
+keys-timers_of timers [] each = refl
+keys-timers_of timers (e ∷ due) each =
+    ap (λ x. x.key ∷ map (λ y. y.key) due) (All-head (λ x. x ≡ entry_at timers x.place) e due each)
+    ∙ ap (λ ks. (timer_in timers e.place).key ∷ ks) (keys-timers_of timers due (All-tail (λ x. x ≡ entry_at timers x.place) e due each))
+
+-- the keys of all entries, sorted, are the keys that are due
+pub sorted-keys : (timers : List Timer) (now : ℕ) (due sorted : List Due) → HaveOwnStamps timers → AreAllDue timers now due →
+    IsPermutation due sorted → IsSortedBy (λ a b. is_lt (due_cmp a b)) sorted →
+    map (λ e. e.key) sorted ≡ due_keys now (in_order timers)
+sorted-keys timers now due sorted own are perm up =
+    keys-timers_of timers sorted (All-weaker (IsEntry timers now) (λ e. e ≡ entry_at timers e.place) (λ e is. is.1) sorted each)
+    ∙ ap (map (λ t. t.key)) (rising-unique (timers_of timers sorted) (filter (is_due now) (in_order timers))
+    (rising-sorted timers now sorted own_sorted each up)
+    (AllPairs-filter IsEarlier (is_due now) (in_order timers) (rising-in_order timers own)) there back)
+    ∙ sym (due_keys-filter now (in_order timers) (rising-in_order timers own))
+  where
+    each : All (IsEntry timers now) sorted
+    each = All-permutation (IsEntry timers now) due sorted perm are.part.each
+
+    own_sorted : HaveOwnStamps (timers_of timers sorted)
+    own_sorted =
+        own_stamps-permutation (timers_of timers due) (timers_of timers sorted)
+        (IsPermutation-map (λ e. timer_in timers e.place) due sorted perm) (own_stamps-due timers now due own are.part)
+
+    at_place : (P : Timer → Type 0) → All P (timers_of timers sorted) → (k : ℕ) (d : Timer) → k < length timers →
+        is_due now (get_or timers k d) ≡ true → P (get_or timers k d)
+    at_place P all k d h passes =
+        let same : timer_in timers k ≡ get_or timers k d = get_or_default timers k _ d h in
+        let due_k : IsDueAt timers now k = (h, leb-true _ now (rw (← same) at passes)) in
+        subst P same (All-contains (λ e. P (timer_in timers e.place)) sorted (entry_at timers k)
+        (All-from_map (λ e. timer_in timers e.place) P sorted all)
+        (Contains-permutation due sorted (entry_at timers k) perm (are.all k due_k)))
+
+    there : (P : Timer → Type 0) → All P (timers_of timers sorted) → All P (filter (is_due now) (in_order timers))
+    there P all =
+        let passed : All (λ t. is_due now t ≡ true → P t) (filter (is_due now) (in_order timers)) =
+        All-filter (is_due now) (λ t. is_due now t ≡ true → P t) (in_order timers)
+        (All-in_order (λ t. is_due now t ≡ true → P t) timers (λ k d h passes. at_place P all k d h passes)) in
+        λ k d h. passed k d h (filter_passes (is_due now) (in_order timers) k d h)
+
+    back : (P : Timer → Type 0) → All P (filter (is_due now) (in_order timers)) → All P (timers_of timers sorted)
+    back P all =
+        let passed : All (λ t. is_due now t ≡ true → P t) timers =
+        All-from_in_order (λ t. is_due now t ≡ true → P t) timers (All-from_filter (is_due now) P (in_order timers) all) in
+        All-map P (λ e. timer_in timers e.place) sorted (All-weaker (IsEntry timers now) (λ e. P (timer_in timers e.place))
+        (λ e is. All-get_or (λ t. is_due now t ≡ true → P t) timers e.place _ is.0.0 passed (le-leb _ now is.0.1)) sorted each)
