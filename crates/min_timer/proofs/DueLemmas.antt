@@ -44,6 +44,7 @@ record IsPart (timers : List Timer) (now : ℕ) (due : List Due) (bound : ℕ) :
   are : AreDue timers now due
   low : All (λ e. e.place < bound) due
 
+-- what a place at the bound or above adds comes behind them
 part-more : (timers : List Timer) (now : ℕ) (due : List Due) (bound at : ℕ) → IsPart timers now due bound → bound ≤ at →
     IsPart timers now (due ++ due_at timers now at) (at + 1)
 part-more timers now due bound at part h =
@@ -58,7 +59,10 @@ part-more timers now due bound at part h =
       low = All-push (λ e. e.place < at + 1) due (entry_at timers at)
           (All-weaker (λ e. e.place < bound) (λ e. e.place < at + 1) (λ e l. omega arith) due part.low) (omega arith);
     })
-    (rw append-nil (record { are = part.are; low = All-weaker (λ e. e.place < bound) (λ e. e.place < at + 1) (λ e l. omega arith) due part.low }))
+    (rw append-nil (record {
+      are = part.are;
+      low = All-weaker (λ e. e.place < bound) (λ e. e.place < at + 1) (λ e l. omega arith) due part.low;
+    }))
 
 -- a place is no less than its index
 index-le : (due : List Due) (j : ℕ) (d : Due) → AllPairs (λ first second. first.place < second.place) due → j < length due →
@@ -81,11 +85,17 @@ contains_due : (timers : List Timer) (now at : ℕ) → IsDueAt timers now at �
 contains_due timers now at is =
     subst (λ more. Contains more (entry_at timers at)) (sym (due_at-some timers now at is)) (Contains-push [] (entry_at timers at))
 
+-- at the start the walk has come to the top
 pub walk-start : (timers : List Timer) (now : ℕ) → IsWalk timers now (due_at timers now 0) 0
 walk-start timers now =
     let part : IsPart timers now (due_at timers now 0) 1 = part-more timers now [] 0 0
-    (record { are = record { rising = λ i j d l h. absurd (omega arith); each = All-nil (λ e. IsDueAt timers now e.place × (e ≡ entry_at timers e.place)) };
-      low = All-nil (λ e. e.place < 0) }) (omega arith) in
+    (record {
+      are = record {
+        rising = λ i j d l h. absurd (omega arith);
+        each = All-nil (λ e. IsDueAt timers now e.place × (e ≡ entry_at timers e.place));
+      };
+      low = All-nil (λ e. e.place < 0);
+    }) (omega arith) in
     record {
       reached = omega arith;
       are = part.are;
@@ -155,9 +165,9 @@ walk-step timers now due next e walk l is =
     below k same up due_k =
         elim (which k same up) [
           | inl at ↦ Contains-append_left one two (entry_at timers k) (subst (λ i. Contains (due_at timers now i) (entry_at timers k)) at
-            (contains_due timers now k due_k))
+              (contains_due timers now k due_k))
           | inr at ↦ Contains-append_right one two (entry_at timers k) (subst (λ i. Contains (due_at timers now i) (entry_at timers k)) at
-            (contains_due timers now k due_k))
+              (contains_due timers now k due_k))
         ]
 
 -- what comes no later than a timer that is due is due
@@ -198,6 +208,7 @@ timers_of timers due = map (λ e. timer_in timers e.place) due
 abbrev IsEntry : List Timer → ℕ → Due → Type 0
 IsEntry timers now e = IsDueAt timers now e.place × (e ≡ entry_at timers e.place)
 
+-- the timer at an index is that of the entry there
 timers_of-at : (timers : List Timer) (due : List Due) (k : ℕ) (d : Timer) (e : Due) → k < length due →
     get_or (timers_of timers due) k d ≡ timer_in timers (get_or due k e).place
 timers_of-at timers due k d e h = get_or-map (λ x. timer_in timers x.place) due k e d h
@@ -218,9 +229,11 @@ due_cmp a b =
     ordering_then (nat_cmp a.deadline b.deadline)
     (ordering_then (nat_cmp a.stamp b.stamp) (ordering_then (nat_cmp a.key b.key) (nat_cmp a.place b.place)))
 
+-- the timer of the first entry comes due before that of the second
 abbrev entry_is_earlier : Due → Due → Bool
 entry_is_earlier a b = nat_lt a.deadline b.deadline || (a.deadline == b.deadline && nat_lt a.stamp b.stamp)
 
+-- what is not less in the sort does not come due before
 not_less : (a b : Due) → is_lt (due_cmp a b) ≡ false → entry_is_earlier a b ≡ false
 not_less a b h = grind (arith, nat_tests)
 
@@ -231,6 +244,7 @@ not_earlier timers a b of_a of_b h =
     subst (λ y. entry_is_earlier (entry_at timers a.place) y ≡ false) of_b
     (subst (λ x. entry_is_earlier x b ≡ false) of_a (not_less a b h))
 
+-- what comes due before what is an order
 earlier-order : IsStrictWeakOrder is_earlier
 earlier-order = record { one_way = earlier-asym; chain = not_earlier-trans }
 
@@ -274,6 +288,7 @@ filter-none p (x ∷ xs) none =
     ap (λ b. if b then x ∷ filter p xs else filter p xs) (All-head (λ y. p y ≡ false) x xs none)
     ∙ filter-none p xs (All-tail (λ y. p y ≡ false) x xs none)
 
+-- the timer is due at the moment
 abbrev is_due : ℕ → Timer → Bool
 is_due now timer = nat_le timer.deadline now
 

@@ -1,5 +1,5 @@
 -- The keys are those of all entries, which are all that are due, sorted.
-use Rattle.std.proofs.Common.{◌≡◌, ◌∙◌, ap, map, take, arith}
+use Rattle.std.proofs.Common.{◌∙◌, ap, map}
 use Rattle.std.proofs.lemmas.List.{take_all}
 use Rattle.min_timer.proofs.DueLemmas.{sorted-keys}
 use Rattle.min_timer.proofs.due.due_keys.Goals as goal

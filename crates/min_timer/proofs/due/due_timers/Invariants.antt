@@ -1,4 +1,4 @@
--- What is found so far, and that the heap has not more places than the walk will come to.
+-- The walk has come to the next entry, of which there are no more than timers.
 use Rattle.std.proofs.Common.{◌-◌, length}
 use Rattle.min_timer.proofs.DueLemmas.{IsWalk}
 use Rattle.min_timer.proofs.due.due_timers.Given as goal
