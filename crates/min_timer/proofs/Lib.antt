@@ -5,3 +5,4 @@ pub mod PlaceLemmas
 pub mod SeatLemmas
 pub mod TakeLemmas
 pub mod HandleLemmas
+pub mod DueLemmas
