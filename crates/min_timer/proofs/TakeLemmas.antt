@@ -1,10 +1,12 @@
 -- What is left of a heap once a timer is out that was exchanged with the last, and what a timer that came in makes of it.
-use Rattle.std.proofs.Common.{◌≡◌, ◌∙◌, sym, ap, subst, ℕ, ◌+◌, ◌<◌, ◌≤◌, ◌≢◌, List, [], ◌∷◌, ◌++◌, length, get_or, take, arith, IsPermutation, length-append}
+use Rattle.std.proofs.Common.{◌≡◌, ◌∙◌, sym, ap, subst, ℕ, ◌+◌, ◌<◌, ◌≤◌, ◌≢◌, List, [], ◌∷◌, ◌++◌, length, get_or, take, arith, IsPermutation, All, length-append}
 use Rattle.std.specs.List.{swap}
 use Rattle.std.proofs.Math.Seq.{take-append_seam}
 use Rattle.std.proofs.lemmas.List.{get_or_append_left}
 use Rattle.std.proofs.lemmas.List.Edits.{length-swap}
 use Rattle.std.proofs.lemmas.List.Sorted.{IsPermutation-trans, IsPermutation-swap, IsPermutation-to_front}
+use Rattle.std.proofs.lemmas.List.Elements.{All-weaker}
+use Rattle.std.proofs.lemmas.List.Kept.{AllPairs-cons}
 use Rattle.slab.specs.Slab.{Slab, slab_len}
 use Rattle.min_timer.specs.Order.{IsHeap, IsHeapBut, IsKept, AreSeated, HaveOwnStamps}
 use Rattle.min_timer.specs.declared.timer.Timer.{Timer}
@@ -55,3 +57,11 @@ pub kept_left : (ws zs : List Timer) (places : Slab ℕ) → IsHeap ws → AreSe
     → HaveOwnStamps zs → IsPermutation zs ws → IsKept ws places
 kept_left ws zs places heap seated count own same =
     record { heap = heap; seated = seated; slot_count = count; own_stamps = own_stamps-permutation zs ws same own }
+
+-- a timer with the greatest stamp has one of its own
+pub own_stamps-newest : (t : Timer) (xs : List Timer) → All (λ x. x.handle.stamp < t.handle.stamp) xs → HaveOwnStamps xs
+    → HaveOwnStamps (t ∷ xs)
+own_stamps-newest t xs newest own =
+    AllPairs-cons (λ first second. first.handle.stamp ≢ second.handle.stamp) t xs
+    (All-weaker (λ x. x.handle.stamp < t.handle.stamp) (λ x. t.handle.stamp ≢ x.handle.stamp) (λ x less same. omega (arith, less, same)) xs
+    newest) own

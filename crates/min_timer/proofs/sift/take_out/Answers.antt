@@ -1,22 +1,37 @@
-use Rattle.std.proofs.Common.{rules, ◌≡◌, ◌≢◌, ◌+◌, ◌<◌, ◌≤◌, ℕ, [], ◌∷◌, ◌++◌, false, length, get_or, IsPermutation, All, IfSome, IfNone, vec_len, vec_capacity, ◌-◌, ◌*◌, ◌/◌, ◌%◌, Bool, true, nat_eq, nat_lt, List, slice_set, bit_and, bit_or, Fits, w8, w32, w64, Bor, MutBor}
+use Rattle.std.proofs.Common.{◌≡◌, ◌+◌, ◌-◌, ◌∷◌, ◌++◌, [], length, drop, arith}
 use Rattle.std.specs.List.{swap}
-use Rattle.slab.specs.Slab.{get, slab_len, HasRoomFor}
-use Rattle.min_timer.specs.Order.{is_earlier, above, IsHeap, IsHeapBut, MayRise, MaySink, AreSeated, HaveOwnStamps, IsKept}
-use Rattle.min_timer.specs.declared.timer.Timer.{Timer}
+use Rattle.min_timer.proofs.TakeLemmas.{exchanged_in_place, parts, but_there, heap_left, own_stamps_left}
 use Rattle.min_timer.proofs.sift.take_out.Goals as goal
 
--- src/sift.rt:116:1
+-- the last place
+end : (c : goal.After-take_last) → c.len-last.result - 1 + 1 ≡ length c.args.timers.now.items
+end c = omega (arith, c.requires.bounds, c.len-last.ensures, c.args.timers.now.ok.0)
+
+-- the others, and behind them the one that is out
+is : (c : goal.After-take_last) →
+    c.take_last.new.timers.items ++ c.take_last.result ∷ [] ≡ swap c.args.timers.now.items c.args.at (c.len-last.result - 1)
+is c =
+    exchanged_in_place c.args.timers.now.items c.deref_mut.result.now c.exchange.new.timers
+    (drop (length c.exchange.new.timers) c.args.timers.now.items) (c.take_last.new.timers.items ++ c.take_last.result ∷ [])
+    c.args.at (c.len-last.result - 1) c.args.timers.now.len c.take_last.ensures.items c.exchange.ensures.after
+    c.deref_mut.ensures.value (omega (arith, c.args.timers.now.ok.0))
+
 pub returns-clause-rest : goal.returns-clause-rest
-returns-clause-rest c = ?
+returns-clause-rest c =
+    parts c.args.timers.now.items c.take_last.new.timers.items c.take_last.result c.args.at (c.len-last.result - 1)
+    c.requires.bounds (end c) (is c)
 
--- src/sift.rt:116:1
 pub returns-clause-own_stamps : goal.returns-clause-own_stamps
-returns-clause-own_stamps c = ?
+returns-clause-own_stamps c =
+    own_stamps_left c.args.timers.now.items c.take_last.new.timers.items c.take_last.result c.args.at (c.len-last.result - 1)
+    c.requires.bounds (end c) (is c) c.requires.kept.own_stamps
 
--- src/sift.rt:116:1
 pub returns-clause-but : goal.returns-clause-but
-returns-clause-but c = ?
+returns-clause-but c =
+    but_there c.args.timers.now.items c.take_last.new.timers.items c.take_last.result c.args.at (c.len-last.result - 1)
+    c.requires.bounds (end c) (is c) c.requires.kept.heap
 
--- src/sift.rt:116:1
 pub returns-clause-heap : goal.returns-clause-heap
-returns-clause-heap c = ?
+returns-clause-heap c =
+    heap_left c.args.timers.now.items c.take_last.new.timers.items c.take_last.result c.args.at (c.len-last.result - 1)
+    c.requires.bounds (end c) (is c) c.requires.kept.heap
