@@ -4,5 +4,6 @@ pub mod OrderLemmas
 pub mod PlaceLemmas
 pub mod SeatLemmas
 pub mod TakeLemmas
+pub mod ViewLemmas
 pub mod HandleLemmas
 pub mod DueLemmas

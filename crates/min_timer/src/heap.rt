@@ -7,7 +7,7 @@ ghost use Rattle.std.specs.Prelude.{◌≡◌, ◌<◌, ◌++◌, ◌∷◌, [],
 
 use crate::due::due_keys;
 use crate::key::TimerKey;
-use crate::sift::{push, take};
+use crate::sift::{place_of, push, take};
 use crate::timer::Timer;
 use slab::Slab;
 use std::alloc::{AllocError, Global};
@@ -69,11 +69,7 @@ impl Heap {
         ensures found { result ≡ timer_of handle self.old }
         ensures left { self.new ≡ without handle self.old }
     {
-        let at = *self.places.get(handle.slot)?;
-        let timer = *self.timers.get(at)?;
-        if timer.handle != handle {
-            return None;
-        }
+        let at = place_of(&self.timers, &self.places, handle)?;
         Some(take(&mut self.timers, &mut self.places, at))
     }
 

@@ -1,13 +1,28 @@
 // A heap of timers in a list, where the slot of each timer holds its place: how timers go to other places.
-ghost use Rattle.std.specs.Prelude.{◌≡◌, ◌≢◌, ◌+◌, ◌<◌, ◌≤◌, ℕ, [], ◌∷◌, ◌++◌, false, length, get_or, IsPermutation, All, IfSome, IfNone, vec_len, vec_capacity};
+ghost use Rattle.std.specs.Prelude.{◌≡◌, ◌≢◌, ◌+◌, ◌<◌, ◌≤◌, ℕ, [], ◌∷◌, ◌++◌, true, false, length, get_or, IsPermutation, All, IfSome, IfNone, vec_len, vec_capacity};
 ghost use Rattle.std.specs.List.{swap};
 ghost use Rattle.slab.specs.Slab.{get, slab_len, HasRoomFor};
 ghost use Rattle.min_timer.specs.Order.{is_earlier, above, IsHeap, IsHeapBut, MayRise, MaySink, AreSeated, HaveOwnStamps, IsKept};
+ghost use Rattle.min_timer.specs.Queue.{is_timer_of};
 ghost use Rattle.min_timer.specs.declared.timer.Timer.{Timer};
 
 use crate::key::TimerKey;
 use crate::timer::Timer;
 use slab::Slab;
+
+/// The place of the timer of this handle, if it waits.
+pub(crate) fn place_of(timers: &[Timer], places: &Slab<usize>, handle: TimerKey) -> Option<usize>
+    requires { AreSeated timers.now places.now }
+    ensures found { IfSome result (λ at. (at < length timers.now) × ((d : Timer) → is_timer_of handle (get_or timers.now at d) ≡ true)) }
+    ensures none { IfNone result (All (λ timer. is_timer_of handle timer ≡ false) timers.now) }
+{
+    let at = *places.get(handle.slot)?;
+    if timers.get(at)?.handle == handle {
+        Some(at)
+    } else {
+        None
+    }
+}
 
 /// Exchanges the timers at two places.
 fn exchange(timers: &mut [Timer], places: &mut Slab<usize>, a: usize, b: usize)
