@@ -1,8 +1,12 @@
-use Rattle.std.proofs.Common.{rules, ◌≡◌, ◌≢◌, ◌+◌, ◌^◌, ◌<◌, ◌≤◌, ◌↔◌, [], true, false, if◌then◌else◌, length, IfOk, IfErr, OnOk, OnErr, ℕ, ◌-◌, ◌*◌, ◌/◌, ◌%◌, Bool, nat_eq, nat_lt, List, ◌∷◌, ◌++◌, slice_index_or, slice_set, bit_and, bit_or, Fits, w8, w32, w64, Bor, MutBor}
-use Rattle.std.specs.Option.{ok_or, option_map}
-use Rattle.min_timer.specs.Queue.{number_of, timer_of, without, with_timer, first_deadline, first_due, after_due, due_keys, has_delay, with_delay, are_too_many}
+use Rattle.std.proofs.Common.{◌≤◌, arith}
+use Rattle.std.proofs.lemmas.List.Elements.{All-weaker}
+use Rattle.min_timer.proofs.OrderLemmas.{All-with_timer}
 use Rattle.min_timer.proofs.timers.Timers.add.Goals as goal
 
--- src/timers.rt:99:5
 pub invariant_of-self-2 : goal.invariant_of-self-2
-invariant_of-self-2 c = ?
+invariant_of-self-2 c =
+    rw c.in_ok-timer.ensures.added
+    (All-with_timer (λ t. t.handle.stamp ≤ c.in_ok-stamp.stamp)
+    (record { deadline = c.args.deadline; key = c.args.key; handle = c.in_ok-timer.timer }) c.self.inside.heap (grind arith)
+    (All-weaker (λ t. t.handle.stamp ≤ c.self.inside.last) (λ t. t.handle.stamp ≤ c.in_ok-stamp.stamp) (λ t h. grind arith)
+    c.self.inside.heap c.self.invariant))
