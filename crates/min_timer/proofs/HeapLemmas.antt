@@ -1,9 +1,9 @@
 -- A heap of timers: a step of a timer up or down, when it has come to its place, and what an edit of the list leaves of the heap.
-use Rattle.std.proofs.Common.{◌≡◌, ◌≢◌, ◌∙◌, ap, ℕ, zero, suc, ◌+◌, ◌<◌, ◌≤◌, Bool, true, false, List, [], ◌∷◌, ◌++◌, length, get_or}
-use Rattle.std.proofs.Common.{arith, inl, inr, length-append}
+use Rattle.std.proofs.Common.{◌≡◌, ◌≢◌, ◌∙◌, ap, ℕ, zero, suc, ◌<◌, ◌≤◌, Bool, true, false, List, length, get_or}
+use Rattle.std.proofs.Common.{arith, inl, inr}
 use Rattle.std.specs.List.{swap}
 use Rattle.std.proofs.lemmas.Bool.{cases_eq, false_from_ne_true}
-use Rattle.std.proofs.lemmas.List.{get_or_append_left, get_or_default}
+use Rattle.std.proofs.lemmas.List.{get_or_default}
 use Rattle.std.proofs.lemmas.List.Edits.{swapped_from_swap, length-swap}
 use Rattle.min_timer.specs.Order.{is_earlier, above, IsHeap, MayRise, MaySink, IsHeapBut}
 use Rattle.min_timer.specs.declared.timer.Timer.{Timer}
@@ -34,10 +34,10 @@ AreExchanged xs ys a b = ((d : Timer) → get_or ys a d ≡ get_or xs b d) × ((
 -- what `swap` leaves at each place
 pub exchanged_from_swap : (xs ys : List Timer) (a b : ℕ) → a < length xs → b < length xs → ys ≡ swap xs a b → AreExchanged xs ys a b
 exchanged_from_swap xs ys a b p q e = (
-    λ d. (swapped_from_swap xs ys a b d p q e).0,
-    λ d. (swapped_from_swap xs ys a b d p q e).1,
-    λ k d. (swapped_from_swap xs ys a b d p q e).2 k,
-    ap length e ∙ length-swap xs a b,
+  λ d. (swapped_from_swap xs ys a b d p q e).0,
+  λ d. (swapped_from_swap xs ys a b d p q e).1,
+  λ k d. (swapped_from_swap xs ys a b d p q e).2 k,
+  ap length e ∙ length-swap xs a b,
 )
 
 -- no timer comes due before itself
@@ -69,9 +69,9 @@ rise-step xs ys at may pos within first e =
                 elim (cases_eq (above k) at) [
                   | inl ua ↦ rw (sw.2 k d kna kp, ua, sw.0 d) (may.over k d pos k0 (omega arith) ua)
                   | inr una ↦ elim (cases_eq (above k) p) [
-                      | inl up ↦ rw (sw.2 k d kna kp, up, sw.1 d) (chain xs k p at (rw up at low) (turn xs at p first) d)
-                      | inr unp ↦ rw (sw.2 k d kna kp, sw.2 (above k) d una unp) (low d)
-                    ]
+                    | inl up ↦ rw (sw.2 k d kna kp, up, sw.1 d) (chain xs k p at (rw up at low) (turn xs at p first) d)
+                    | inr unp ↦ rw (sw.2 k d kna kp, sw.2 (above k) d una unp) (low d)
+                  ]
                 ]
           ];
       over = λ k d p0 k0 kl up.
@@ -101,14 +101,14 @@ sink-step xs ys at c may less within up first others e =
           elim (cases_eq k c) [
             | inl kc ↦ rw (kc, up, sw.1 d, sw.0 d) (turn xs c at first d)
             | inr knc ↦ elim (cases_eq k at) [
-                | inl ka ↦
-                    let top = sw.2 (above at) d (λ z. omega arith) (λ z. omega arith) in
-                    rw (ka, sw.0 d, top) (may.over c d (omega arith) (omega arith) within up)
-                | inr kna ↦ elim (cases_eq (above k) at) [
-                    | inl ua ↦ rw (sw.2 k d kna knc, ua, sw.0 d) (others k d k0 (omega arith) ua)
-                    | inr una ↦ rw (sw.2 k d kna knc, sw.2 (above k) d una uc) (may.under k una d k0 (omega arith))
-                  ]
+              | inl ka ↦
+                  let top = sw.2 (above at) d (λ z. omega arith) (λ z. omega arith) in
+                  rw (ka, sw.0 d, top) (may.over c d (omega arith) (omega arith) within up)
+              | inr kna ↦ elim (cases_eq (above k) at) [
+                | inl ua ↦ rw (sw.2 k d kna knc, ua, sw.0 d) (others k d k0 (omega arith) ua)
+                | inr una ↦ rw (sw.2 k d kna knc, sw.2 (above k) d una uc) (may.under k una d k0 (omega arith))
               ]
+            ]
           ];
       over = λ k d c0 k0 kl uc.
           let low : IsNotEarlierAt xs k (above k) = λ e. may.under k (λ z. omega arith) e k0 (omega arith) in
@@ -165,17 +165,6 @@ but-removed xs ys at heap within shorter same = record {
 pub heap-shorter : (xs ys : List Timer) → IsHeap xs → length ys ≤ length xs
     → ((k : ℕ) (d : Timer) → k < length ys → get_or ys k d ≡ get_or xs k d) → IsHeap ys
 heap-shorter xs ys heap shorter same k d k0 kl = rw (same k d kl, same (above k) d (omega arith)) (heap k d k0 (omega arith))
-
--- a timer after the last of a heap may rise
-pub may_rise-pushed : (xs : List Timer) (t : Timer) → IsHeap xs → MayRise (xs ++ t ∷ []) (length xs)
-may_rise-pushed xs t heap =
-    let long : length (xs ++ t ∷ []) ≡ length xs + 1 = length-append xs (t ∷ []) in
-    record {
-      under = λ k kna d k0 kl.
-          let less : k < length xs = omega arith in
-          rw (get_or_append_left xs (t ∷ []) d k less, get_or_append_left xs (t ∷ []) d (above k) (omega arith)) (heap k d k0 less);
-      over = λ k d a0 k0 kl ua. absurd (omega arith);
-    }
 
 -- no timer of a heap at a place up to n comes before the top
 top-first-to : (xs : List Timer) → IsHeap xs → (n k : ℕ) (d : Timer) → k ≤ n → k < length xs

@@ -1,6 +1,6 @@
 -- The place of each timer in its slot, when timers go to other places, come in and go out.
-use Rattle.std.proofs.Common.{◌≡◌, ◌≢◌, ◌∙◌, sym, ap, ℕ, ◌+◌, ◌<◌, List, [], ◌∷◌, ◌++◌, length, get_or, arith, cond, is_some, Some, None}
-use Rattle.std.proofs.Common.{inl, inr, ◌⊎◌, refl}
+use Rattle.std.proofs.Common.{◌≡◌, ◌≢◌, ◌∙◌, sym, ap, ℕ, ◌<◌, List, [], ◌∷◌, ◌++◌, length, get_or, arith, cond, is_some, Some, None}
+use Rattle.std.proofs.Common.{inl, inr, ◌⊎◌}
 use Rattle.std.specs.List.{swap}
 use Rattle.std.proofs.lemmas.Bool.{cases_eq}
 use Rattle.std.proofs.lemmas.List.{get_or_default, get_or_append_left, length-append}
@@ -88,11 +88,11 @@ pub seated-without_last : (zs : List Timer) (t : Timer) (s new : Slab ℕ) → A
     → Updates s new t.handle.slot None → AreSeated zs new
 seated-without_last zs t s new seated updates = λ at d within.
     let there : get s (get_or zs at d).handle.slot ≡ Some at =
-        ap (λ x. get s x.handle.slot) (sym (get_or_append_left zs (t ∷ []) d at within))
-        ∙ seated at d (omega (arith, within, length-append zs (t ∷ []))) in
+    ap (λ x. get s x.handle.slot) (sym (get_or_append_left zs (t ∷ []) d at within))
+    ∙ seated at d (omega (arith, within, length-append zs (t ∷ []))) in
     let last : get s t.handle.slot ≡ Some (length zs) =
-        ap (λ x. get s x.handle.slot) (sym (get_or-append_seam zs t [] d))
-        ∙ seated (length zs) d (omega (arith, length-append zs (t ∷ []))) in
+    ap (λ x. get s x.handle.slot) (sym (get_or-append_seam zs t [] d))
+    ∙ seated (length zs) d (omega (arith, length-append zs (t ∷ []))) in
     updates.others (get_or zs at d).handle.slot (λ same.
     let one : Some at ≡ Some (length zs) = sym there ∙ ap (get s) same ∙ last in
     let place : at ≡ length zs = cc in

@@ -10,7 +10,7 @@ use Rattle.std.proofs.lemmas.List.Kept.{AllPairs-cons}
 use Rattle.slab.specs.Slab.{Slab, slab_len}
 use Rattle.min_timer.specs.Order.{IsHeap, IsHeapBut, IsKept, AreSeated, HaveOwnStamps}
 use Rattle.min_timer.specs.declared.timer.Timer.{Timer}
-use Rattle.min_timer.proofs.HeapLemmas.{AreExchanged, exchanged_from_swap, but-removed, heap-shorter}
+use Rattle.min_timer.proofs.HeapLemmas.{exchanged_from_swap, but-removed, heap-shorter}
 use Rattle.min_timer.proofs.OrderLemmas.{own_stamps-permutation, own_stamps-rest}
 
 -- what a slice of a whole list leaves in it

@@ -1,11 +1,9 @@
 -- What is seen of a heap of timers: them in their order, whatever their places.
-use Rattle.std.proofs.Common.{◌≡◌, ◌≢◌, ◌∙◌, sym, ap, ℕ, ◌<◌, true, false, List, [], ◌∷◌, length, get_or, slice_get, Some, None, arith, IsPermutation, All, refl, not, filter}
-use Rattle.std.specs.List.{find}
+use Rattle.std.proofs.Common.{◌≡◌, ◌≢◌, ◌∙◌, sym, ap, ◌<◌, true, false, List, [], ◌∷◌, length, get_or, slice_get, Some, None, arith, IsPermutation, All, refl}
 use Rattle.std.proofs.lemmas.Bool.{false_from_ne_true}
 use Rattle.std.proofs.lemmas.List.Elements.{All-head, All-tail}
 use Rattle.std.proofs.lemmas.List.Sorted.{All-permutation, IsPermutation-refl}
-use Rattle.slab.specs.Slab.{Slab, get}
-use Rattle.min_timer.specs.Order.{is_earlier, IsEarlier, in_order, placed, IsHeap, HaveOwnStamps, AreSeated}
+use Rattle.min_timer.specs.Order.{is_earlier, IsEarlier, in_order, IsHeap, HaveOwnStamps}
 use Rattle.min_timer.specs.Queue.{is_timer_of, timer_of, without, with_timer}
 use Rattle.min_timer.specs.declared.key.TimerKey.{TimerKey}
 use Rattle.min_timer.specs.declared.timer.Timer.{Timer}
@@ -13,7 +11,7 @@ use Rattle.min_timer.proofs.EarlierLemmas.{earlier-total}
 use Rattle.min_timer.proofs.HeapLemmas.{top-first}
 use Rattle.min_timer.proofs.OrderLemmas.{own_stamps-permutation, own_stamps-first, in_order-permutation, All-in_order, placed-first}
 use Rattle.min_timer.proofs.OrderLemmas.{placed-newest, without-placed, timer_of-placed}
-use Rattle.min_timer.proofs.PlaceLemmas.{slot_of_handle, stamp_of_handle}
+use Rattle.min_timer.proofs.PlaceLemmas.{stamp_of_handle}
 use Rattle.min_timer.proofs.TakeLemmas.{own_stamps-newest}
 
 -- the top comes first, whatever the order of the others
@@ -25,7 +23,7 @@ top-out xs ys t heap own some top parts =
     (All-permutation (λ x. is_earlier x t ≡ false) xs (t ∷ ys) parts late) in
     let differ = own_stamps-first t ys (own_stamps-permutation xs (t ∷ ys) parts own) in
     let after : All (IsEarlier t) ys = λ k d h.
-        earlier-total (get_or ys k d) t (λ same. differ k d h (sym same)) (later k d h) in
+    earlier-total (get_or ys k d) t (λ same. differ k d h (sym same)) (later k d h) in
     in_order-permutation xs (t ∷ ys) own parts ∙ placed-first t (in_order ys) (All-in_order (IsEarlier t) ys after)
 
 -- the first of a heap is its top
@@ -72,11 +70,3 @@ pub all-left : (handle : TimerKey) (xs : List Timer) → All (λ x. is_timer_of 
 all-left handle [] none = refl
 all-left handle (x ∷ xs) none = rw (All-head (λ y. is_timer_of handle y ≡ false) x xs none)
     (ap (λ ys. x ∷ ys) (all-left handle xs (All-tail (λ y. is_timer_of handle y ≡ false) x xs none)))
-
--- a timer of the handle stands at the place that the handle's slot holds
-pub none-of_handle : (handle : TimerKey) (xs : List Timer) (places : Slab ℕ) → AreSeated xs places
-    → ((at : ℕ) (d : Timer) → at < length xs → get places handle.slot ≡ Some at → is_timer_of handle (get_or xs at d) ≡ true → ⊥)
-    → All (λ x. is_timer_of handle x ≡ false) xs
-none-of_handle handle xs places seated never = λ at d within.
-    false_from_ne_true (is_timer_of handle (get_or xs at d)) (λ yes.
-    never at d within (ap (get places) (sym (slot_of_handle handle (get_or xs at d) yes)) ∙ seated at d within) yes)

@@ -53,7 +53,12 @@ impl Heap {
     }
 
     /// Adds a timer whose stamp is above all others, and hands out its handle.
-    pub(crate) fn push(&mut self, deadline: u64, stamp: u64, key: u64) -> Result<TimerKey, AllocError>
+    pub(crate) fn push(
+        &mut self,
+        deadline: u64,
+        stamp: u64,
+        key: u64,
+    ) -> Result<TimerKey, AllocError>
         requires newest { All (λ timer. timer.handle.stamp < stamp) self.old }
         ensures added { IfOk result (λ handle. self.new ≡ with_timer (record { deadline = deadline; key = key; handle = handle }) self.old) }
         ensures stamped { IfOk result (λ handle. handle.stamp ≡ stamp) }

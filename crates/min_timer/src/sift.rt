@@ -158,7 +158,13 @@ fn take_last(timers: &mut Vec<Timer>, places: &mut Slab<usize>) -> Timer
 }
 
 /// Adds a timer whose stamp is above all others, and hands out its handle.
-pub(crate) fn push(timers: &mut Vec<Timer>, places: &mut Slab<usize>, deadline: u64, stamp: u64, key: u64) -> TimerKey
+pub(crate) fn push(
+    timers: &mut Vec<Timer>,
+    places: &mut Slab<usize>,
+    deadline: u64,
+    stamp: u64,
+    key: u64,
+) -> TimerKey
     requires room { (vec_len timers.old < vec_capacity timers.old) × HasRoomFor places.old 1 }
     requires newest { All (λ timer. timer.handle.stamp < stamp) timers.old.items }
     requires kept { IsKept timers.old.items places.old }
@@ -169,7 +175,11 @@ pub(crate) fn push(timers: &mut Vec<Timer>, places: &mut Slab<usize>, deadline: 
     let at = timers.len();
     let slot = places.insert_reserved(at);
     let handle = TimerKey { slot, stamp };
-    timers.push_reserved(Timer { deadline, key, handle });
+    timers.push_reserved(Timer {
+        deadline,
+        key,
+        handle,
+    });
     rise(timers, places, at);
     handle
 }

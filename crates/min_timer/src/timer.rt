@@ -17,6 +17,7 @@ impl Timer {
     pub(crate) fn is_earlier(&self, other: &Timer) -> bool
         ensures { result ≡ is_earlier self.now other.now }
     {
-        self.deadline < other.deadline || (self.deadline == other.deadline && self.handle.stamp < other.handle.stamp)
+        self.deadline < other.deadline
+            || (self.deadline == other.deadline && self.handle.stamp < other.handle.stamp)
     }
 }

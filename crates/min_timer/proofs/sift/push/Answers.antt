@@ -35,6 +35,11 @@ returns-clause-kept c =
     let xs = c.args.timers.now.items in
     rw (left c)
     (kept_left c.rise.new.timers (new_timer c ∷ xs) c.rise.new.places c.rise.ensures.heap c.rise.ensures.seated
-    (omega (arith, c.rise.ensures.count, c.insert_reserved-slot.ensures.len, c.requires.kept.slot_count,
-    length_permutation (new_timer c ∷ xs) c.rise.new.timers (risen c)))
+    (omega (
+      arith,
+      c.rise.ensures.count,
+      c.insert_reserved-slot.ensures.len,
+      c.requires.kept.slot_count,
+      length_permutation (new_timer c ∷ xs) c.rise.new.timers (risen c),
+    ))
     (own_stamps-newest (new_timer c) xs c.requires.newest c.requires.kept.own_stamps) (risen c))

@@ -18,7 +18,7 @@ loop-at-preserved c =
     let after = c.exchange.ensures.after in
     let long : length ys ≡ length xs = ap length after ∙ length-swap xs at (above at) in
     let first : IsEarlierAt xs at (above at) =
-        tested_at xs at (above at) true within up (sym c.is_earlier.ensures ∙ c.if-not-is_earlier.false) in
+    tested_at xs at (above at) true within up (sym c.is_earlier.ensures ∙ c.if-not-is_earlier.false) in
     record {
       within = omega arith;
       long = long ∙ inv.long;

@@ -14,7 +14,7 @@ returns-then-not-is_earlier-clause-heap c =
     let k = c.in-Some.below in
     let below = c.in-Some.ensures.below in
     let last : IsNotEarlierAt xs k at =
-        tested_at xs k at false below.0 inv.within (sym c.is_earlier.ensures ∙ c.if-not-is_earlier.true) in
+    tested_at xs k at false below.0 inv.within (sym c.is_earlier.ensures ∙ c.if-not-is_earlier.true) in
     sink-done-first xs at k inv.heap c.in-Some.ensures.first last
 
 pub loop-below-preserved : goal.loop-below-preserved
@@ -29,7 +29,7 @@ loop-below-preserved c =
     let after = c.exchange.ensures.after in
     let long : length ys ≡ length xs = ap length after ∙ length-swap xs at k in
     let first : IsEarlierAt xs k at =
-        tested_at xs k at true below.0 within (sym c.is_earlier.ensures ∙ c.if-not-is_earlier.false) in
+    tested_at xs k at true below.0 within (sym c.is_earlier.ensures ∙ c.if-not-is_earlier.false) in
     record {
       within = omega (arith, below.0);
       long = long ∙ inv.long;

@@ -7,6 +7,6 @@ use Rattle.min_timer.proofs.sift.take_last.Goals as goal
 pub returns-clause-seated : goal.returns-clause-seated
 returns-clause-seated c =
     let parts : c.args.timers.now.items ≡ c.pop.new.self.items ++ c.unwrap-last.result ∷ [] =
-        c.pop.ensures.items ∙ ap (λ o. c.pop.new.self.items ++ option_to_list o) c.unwrap-last.ensures in
+    c.pop.ensures.items ∙ ap (λ o. c.pop.new.self.items ++ option_to_list o) c.unwrap-last.ensures in
     seated-without_last c.pop.new.self.items c.unwrap-last.result c.args.places.now c.try_remove.new.self
     (subst (λ xs. AreSeated xs c.args.places.now) parts c.requires.seated) c.try_remove.ensures.updates
