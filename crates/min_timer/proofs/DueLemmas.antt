@@ -14,7 +14,7 @@ use Rattle.std.proofs.lemmas.List.Elements.{All-contains, filter_passes, Contain
 use Rattle.std.proofs.lemmas.List.Kept.{AllPairs-filter}
 use Rattle.std.proofs.lemmas.List.Quantifiers.{all_pairs_push}
 use Rattle.std.proofs.lemmas.List.Sorted.{All-permutation, Contains-permutation, IsPermutation-map, sorted_far}
-use Rattle.min_timer.specs.Due.{timer_in, entry_at, IsDueAt, due_at, AreDue, AreAllDue}
+use Rattle.min_timer.specs.DueTimers.{timer_in, entry_at, IsDueAt, found_at, AreFoundDue, AreAllDue}
 use Rattle.min_timer.specs.Order.{is_earlier, IsEarlier, above, IsHeap, HaveOwnStamps, in_order}
 use Rattle.min_timer.specs.Queue.{due_keys}
 use Rattle.min_timer.specs.declared.due.Due.{Due}
@@ -23,32 +23,32 @@ use Rattle.min_timer.proofs.EarlierLemmas.{earlier-asym, earlier-total, not_earl
 use Rattle.min_timer.proofs.OrderLemmas.{own_stamps-permutation, All-in_order, All-from_in_order, rising-in_order, rising-unique}
 
 -- what a place adds is the timer that is due there, or nothing
-due_at-cases : (P : List Due → Type 0) (timers : List Timer) (now at : ℕ) → (IsDueAt timers now at → P (entry_at timers at ∷ [])) → P [] →
-    P (due_at timers now at)
-due_at-cases P timers now at some none =
+found_at-cases : (P : List Due → Type 0) (timers : List Timer) (now at : ℕ) → (IsDueAt timers now at → P (entry_at timers at ∷ [])) → P [] →
+    P (found_at timers now at)
+found_at-cases P timers now at some none =
     cond_both (nat_lt at (length timers) && nat_le (timer_in timers at).deadline now) (entry_at timers at ∷ []) [] P
     (λ e. let b = and_parts (nat_lt at (length timers)) (nat_le (timer_in timers at).deadline now) e in
     some (ltb-true at (length timers) b.0, leb-true (timer_in timers at).deadline now b.1))
     (λ _. none)
 
 -- at a place with a timer that is due it is that
-due_at-some : (timers : List Timer) (now at : ℕ) → IsDueAt timers now at → due_at timers now at ≡ entry_at timers at ∷ []
-due_at-some timers now at is = grind (arith, nat_tests)
+found_at-some : (timers : List Timer) (now at : ℕ) → IsDueAt timers now at → found_at timers now at ≡ entry_at timers at ∷ []
+found_at-some timers now at is = grind (arith, nat_tests)
 
 -- behind the last place it is nothing
-pub due_at-past : (timers : List Timer) (now at : ℕ) → length timers ≤ at → due_at timers now at ≡ []
-due_at-past timers now at h = grind (arith, nat_tests)
+pub found_at-past : (timers : List Timer) (now at : ℕ) → length timers ≤ at → found_at timers now at ≡ []
+found_at-past timers now at h = grind (arith, nat_tests)
 
 -- timers that are due, at places below the bound
 record IsPart (timers : List Timer) (now : ℕ) (due : List Due) (bound : ℕ) : Type 0 where
-  are : AreDue timers now due
+  are : AreFoundDue timers now due
   low : All (λ e. e.place < bound) due
 
 -- what a place at the bound or above adds comes behind them
 part-more : (timers : List Timer) (now : ℕ) (due : List Due) (bound at : ℕ) → IsPart timers now due bound → bound ≤ at →
-    IsPart timers now (due ++ due_at timers now at) (at + 1)
+    IsPart timers now (due ++ found_at timers now at) (at + 1)
 part-more timers now due bound at part h =
-    due_at-cases (λ more. IsPart timers now (due ++ more) (at + 1)) timers now at
+    found_at-cases (λ more. IsPart timers now (due ++ more) (at + 1)) timers now at
     (λ is. record {
       are = record {
         rising = all_pairs_push (λ first second. first.place < second.place) due (entry_at timers at) part.are.rising
@@ -74,21 +74,21 @@ index-le due (suc j) d rising h =
 -- the walk has come to the entry of this index: what is below those before it is found, and nothing below the others
 pub record IsWalk (timers : List Timer) (now : ℕ) (due : List Due) (next : ℕ) : Type 0 where
   pub reached : next ≤ length due
-  pub are : AreDue timers now due
+  pub are : AreFoundDue timers now due
   pub ahead : (j : ℕ) (d : Due) → next ≤ j → j < length due → All (λ e. e.place < 2 * (get_or due j d).place + 1) due
   pub top : IsDueAt timers now 0 → Contains due (entry_at timers 0)
   pub below : (j : ℕ) (d : Due) (k : ℕ) → j < next → (get_or due j d).place ≡ above k → 0 < k → IsDueAt timers now k →
       Contains due (entry_at timers k)
 
 -- what the place adds holds the timer that is due there
-contains_due : (timers : List Timer) (now at : ℕ) → IsDueAt timers now at → Contains (due_at timers now at) (entry_at timers at)
+contains_due : (timers : List Timer) (now at : ℕ) → IsDueAt timers now at → Contains (found_at timers now at) (entry_at timers at)
 contains_due timers now at is =
-    subst (λ more. Contains more (entry_at timers at)) (sym (due_at-some timers now at is)) (Contains-push [] (entry_at timers at))
+    subst (λ more. Contains more (entry_at timers at)) (sym (found_at-some timers now at is)) (Contains-push [] (entry_at timers at))
 
 -- at the start the walk has come to the top
-pub walk-start : (timers : List Timer) (now : ℕ) → IsWalk timers now (due_at timers now 0) 0
+pub walk-start : (timers : List Timer) (now : ℕ) → IsWalk timers now (found_at timers now 0) 0
 walk-start timers now =
-    let part : IsPart timers now (due_at timers now 0) 1 = part-more timers now [] 0 0
+    let part : IsPart timers now (found_at timers now 0) 1 = part-more timers now [] 0 0
     (record {
       are = record {
         rising = λ i j d l h. absurd (omega arith);
@@ -99,8 +99,8 @@ walk-start timers now =
     record {
       reached = omega arith;
       are = part.are;
-      ahead = λ j d l h. All-weaker (λ e. e.place < 1) (λ e. e.place < 2 * (get_or (due_at timers now 0) j d).place + 1)
-          (λ e low. omega arith) (due_at timers now 0) part.low;
+      ahead = λ j d l h. All-weaker (λ e. e.place < 1) (λ e. e.place < 2 * (get_or (found_at timers now 0) j d).place + 1)
+          (λ e low. omega arith) (found_at timers now 0) part.low;
       top = contains_due timers now 0;
       below = λ j d k l same up is. absurd (omega arith);
     }
@@ -142,15 +142,15 @@ walk-on timers now due more next e walk l is part found =
 -- the two places below an entry
 pub walk-step : (timers : List Timer) (now : ℕ) (due : List Due) (next : ℕ) (e : Due) → IsWalk timers now due next → next < length due →
     e ≡ get_or due next e →
-    IsWalk timers now ((due ++ due_at timers now (2 * e.place + 1)) ++ due_at timers now (2 * e.place + 2)) (next + 1)
+    IsWalk timers now ((due ++ found_at timers now (2 * e.place + 1)) ++ found_at timers now (2 * e.place + 2)) (next + 1)
 walk-step timers now due next e walk l is =
     rw append_assoc (walk-on timers now due (one ++ two) next e walk l is (rw (← append_assoc) both) below)
   where
     one : List Due
-    one = due_at timers now (2 * e.place + 1)
+    one = found_at timers now (2 * e.place + 1)
 
     two : List Due
-    two = due_at timers now (2 * e.place + 2)
+    two = found_at timers now (2 * e.place + 2)
 
     both : IsPart timers now ((due ++ one) ++ two) (2 * e.place + 2 + 1)
     both =
@@ -164,9 +164,9 @@ walk-step timers now due next e walk l is =
     below : (k : ℕ) → e.place ≡ above k → 0 < k → IsDueAt timers now k → Contains (one ++ two) (entry_at timers k)
     below k same up due_k =
         elim (which k same up) [
-          | inl at ↦ Contains-append_left one two (entry_at timers k) (subst (λ i. Contains (due_at timers now i) (entry_at timers k)) at
+          | inl at ↦ Contains-append_left one two (entry_at timers k) (subst (λ i. Contains (found_at timers now i) (entry_at timers k)) at
               (contains_due timers now k due_k))
-          | inr at ↦ Contains-append_right one two (entry_at timers k) (subst (λ i. Contains (due_at timers now i) (entry_at timers k)) at
+          | inr at ↦ Contains-append_right one two (entry_at timers k) (subst (λ i. Contains (found_at timers now i) (entry_at timers k)) at
               (contains_due timers now k due_k))
         ]
 
@@ -214,7 +214,7 @@ timers_of-at : (timers : List Timer) (due : List Due) (k : ℕ) (d : Timer) (e :
 timers_of-at timers due k d e h = get_or-map (λ x. timer_in timers x.place) due k e d h
 
 -- entries that stand at places of their own have timers with stamps of their own
-own_stamps-due : (timers : List Timer) (now : ℕ) (due : List Due) → HaveOwnStamps timers → AreDue timers now due →
+own_stamps-due : (timers : List Timer) (now : ℕ) (due : List Due) → HaveOwnStamps timers → AreFoundDue timers now due →
     HaveOwnStamps (timers_of timers due)
 own_stamps-due timers now due own are = λ i j d l h.
     let none = entry_at timers 0 in

@@ -10,7 +10,7 @@ use Rattle.std.proofs.lemmas.List.Elements.{All-nil, All-cons, All-head, All-tai
 use Rattle.std.proofs.lemmas.List.Kept.{AllPairs-cons}
 use Rattle.std.proofs.lemmas.List.Sorted.{IsPermutation-keeps, IsPermutation-cons, IsPermutation-middle, IsPermutation-trans}
 use Rattle.std.proofs.lemmas.List.Sorted.{IsPermutation-sym, IsPermutation-refl, All-permutation}
-use Rattle.min_timer.specs.Order.{is_earlier, IsEarlier, placed, in_order, HaveOwnStamps}
+use Rattle.min_timer.specs.Order.{is_earlier, IsEarlier, put_in_order, in_order, HaveOwnStamps}
 use Rattle.min_timer.specs.Queue.{with_timer, without, timer_of, is_timer_of}
 use Rattle.min_timer.specs.declared.key.TimerKey.{TimerKey}
 use Rattle.min_timer.specs.declared.timer.Timer.{Timer}
@@ -83,44 +83,44 @@ rest_rises : (x : Timer) (xs : List Timer) → AllPairs IsEarlier (x ∷ xs) →
 rest_rises x xs pairs = λ i j d l h. pairs (suc i) (suc j) d (omega arith) (omega arith)
 
 -- what holds of the timer and of the others holds of all with it in its place
-All-placed : (P : Timer → Type 0) (t : Timer) (xs : List Timer) → P t → All P xs → All P (placed t xs)
-All-placed P t [] here all = All-cons P t [] here all
-All-placed P t (x ∷ xs) here all =
-    cond_both (is_earlier t x) (t ∷ x ∷ xs) (x ∷ placed t xs) (All P)
+All-put_in_order : (P : Timer → Type 0) (t : Timer) (xs : List Timer) → P t → All P xs → All P (put_in_order t xs)
+All-put_in_order P t [] here all = All-cons P t [] here all
+All-put_in_order P t (x ∷ xs) here all =
+    cond_both (is_earlier t x) (t ∷ x ∷ xs) (x ∷ put_in_order t xs) (All P)
     (λ _. All-cons P t (x ∷ xs) here all)
-    (λ _. All-cons P x (placed t xs) (All-head P x xs all) (All-placed P t xs here (All-tail P x xs all)))
+    (λ _. All-cons P x (put_in_order t xs) (All-head P x xs all) (All-put_in_order P t xs here (All-tail P x xs all)))
 
 -- a timer of another stamp, put in its place, leaves the timers in order
-rising-placed : (t : Timer) (xs : List Timer) → All (λ x. t.handle.stamp ≢ x.handle.stamp) xs → AllPairs IsEarlier xs
-    → AllPairs IsEarlier (placed t xs)
-rising-placed t [] differ pairs = AllPairs-cons IsEarlier t [] (All-nil (IsEarlier t)) pairs
-rising-placed t (x ∷ xs) differ pairs =
-    cond_both (is_earlier t x) (t ∷ x ∷ xs) (x ∷ placed t xs) (AllPairs IsEarlier)
+rising-put_in_order : (t : Timer) (xs : List Timer) → All (λ x. t.handle.stamp ≢ x.handle.stamp) xs → AllPairs IsEarlier xs
+    → AllPairs IsEarlier (put_in_order t xs)
+rising-put_in_order t [] differ pairs = AllPairs-cons IsEarlier t [] (All-nil (IsEarlier t)) pairs
+rising-put_in_order t (x ∷ xs) differ pairs =
+    cond_both (is_earlier t x) (t ∷ x ∷ xs) (x ∷ put_in_order t xs) (AllPairs IsEarlier)
     (λ e. AllPairs-cons IsEarlier t (x ∷ xs)
     (All-cons (IsEarlier t) x xs e (All-weaker (IsEarlier x) (IsEarlier t) (λ y h. earlier-trans t x y e h) xs
     (first_is_earlier x xs pairs)))
     pairs)
-    (λ e. AllPairs-cons IsEarlier x (placed t xs)
-    (All-placed (IsEarlier x) t xs
+    (λ e. AllPairs-cons IsEarlier x (put_in_order t xs)
+    (All-put_in_order (IsEarlier x) t xs
     (earlier-total t x (All-head (λ (y : Timer). t.handle.stamp ≢ y.handle.stamp) x xs differ) e)
     (first_is_earlier x xs pairs))
-    (rising-placed t xs (All-tail (λ (y : Timer). t.handle.stamp ≢ y.handle.stamp) x xs differ) (rest_rises x xs pairs)))
+    (rising-put_in_order t xs (All-tail (λ (y : Timer). t.handle.stamp ≢ y.handle.stamp) x xs differ) (rest_rises x xs pairs)))
 
 -- a timer put in its place stands there instead of at the front
-permutation-placed : (t : Timer) (xs : List Timer) → IsPermutation (t ∷ xs) (placed t xs)
-permutation-placed t [] = IsPermutation-refl (t ∷ [])
-permutation-placed t (x ∷ xs) =
-    cond_both (is_earlier t x) (t ∷ x ∷ xs) (x ∷ placed t xs) (IsPermutation (t ∷ x ∷ xs))
+permutation-put_in_order : (t : Timer) (xs : List Timer) → IsPermutation (t ∷ xs) (put_in_order t xs)
+permutation-put_in_order t [] = IsPermutation-refl (t ∷ [])
+permutation-put_in_order t (x ∷ xs) =
+    cond_both (is_earlier t x) (t ∷ x ∷ xs) (x ∷ put_in_order t xs) (IsPermutation (t ∷ x ∷ xs))
     (λ _. IsPermutation-refl (t ∷ x ∷ xs))
-    (λ _. IsPermutation-trans (t ∷ x ∷ xs) (x ∷ t ∷ xs) (x ∷ placed t xs) (IsPermutation-middle (t ∷ []) x xs)
-    (IsPermutation-cons x (t ∷ xs) (placed t xs) (permutation-placed t xs)))
+    (λ _. IsPermutation-trans (t ∷ x ∷ xs) (x ∷ t ∷ xs) (x ∷ put_in_order t xs) (IsPermutation-middle (t ∷ []) x xs)
+    (IsPermutation-cons x (t ∷ xs) (put_in_order t xs) (permutation-put_in_order t xs)))
 
 -- the timers in order are the same timers
 pub permutation-in_order : (xs : List Timer) → IsPermutation xs (in_order xs)
 permutation-in_order [] = IsPermutation-refl []
 permutation-in_order (t ∷ xs) =
-    IsPermutation-trans (t ∷ xs) (t ∷ in_order xs) (placed t (in_order xs))
-    (IsPermutation-cons t xs (in_order xs) (permutation-in_order xs)) (permutation-placed t (in_order xs))
+    IsPermutation-trans (t ∷ xs) (t ∷ in_order xs) (put_in_order t (in_order xs))
+    (IsPermutation-cons t xs (in_order xs) (permutation-in_order xs)) (permutation-put_in_order t (in_order xs))
 
 -- what holds of all timers holds of them in order
 pub All-in_order : (P : Timer → Type 0) (xs : List Timer) → All P xs → All P (in_order xs)
@@ -134,7 +134,7 @@ All-from_in_order P xs all = All-permutation P (in_order xs) xs (IsPermutation-s
 pub rising-in_order : (xs : List Timer) → HaveOwnStamps xs → AllPairs IsEarlier (in_order xs)
 rising-in_order [] own = λ i j d l h. absurd (omega arith)
 rising-in_order (t ∷ xs) own =
-    rising-placed t (in_order xs)
+    rising-put_in_order t (in_order xs)
     (All-in_order (λ (x : Timer). t.handle.stamp ≢ x.handle.stamp) xs (own_stamps-first t xs own))
     (rising-in_order xs (own_stamps-rest t xs own))
 
@@ -187,18 +187,19 @@ newest_is_earlier : (t x : Timer) → x.handle.stamp < t.handle.stamp → is_ear
 newest_is_earlier t x h = grind (arith, nat_tests)
 
 -- the timer with the greatest stamp comes behind those of its deadline
-pub placed-newest : (t : Timer) (xs : List Timer) → All (λ x. x.handle.stamp < t.handle.stamp) xs → placed t xs ≡ with_timer t xs
-placed-newest t [] older = refl
-placed-newest t (x ∷ xs) older =
-    ap (λ b. cond b (t ∷ x ∷ xs) (x ∷ placed t xs))
+pub put_in_order-newest : (t : Timer) (xs : List Timer) → All (λ x. x.handle.stamp < t.handle.stamp) xs
+    → put_in_order t xs ≡ with_timer t xs
+put_in_order-newest t [] older = refl
+put_in_order-newest t (x ∷ xs) older =
+    ap (λ b. cond b (t ∷ x ∷ xs) (x ∷ put_in_order t xs))
     (newest_is_earlier t x (All-head (λ (y : Timer). y.handle.stamp < t.handle.stamp) x xs older))
     ∙ ap (λ ys. cond (nat_lt t.deadline x.deadline) (t ∷ x ∷ xs) (x ∷ ys))
-    (placed-newest t xs (All-tail (λ (y : Timer). y.handle.stamp < t.handle.stamp) x xs older))
+    (put_in_order-newest t xs (All-tail (λ (y : Timer). y.handle.stamp < t.handle.stamp) x xs older))
 
 -- a timer that comes before all others stands first
-pub placed-first : (t : Timer) (xs : List Timer) → All (IsEarlier t) xs → placed t xs ≡ t ∷ xs
-placed-first t [] all = refl
-placed-first t (x ∷ xs) all = ap (λ b. cond b (t ∷ x ∷ xs) (x ∷ placed t xs)) (All-head (IsEarlier t) x xs all)
+pub put_in_order-first : (t : Timer) (xs : List Timer) → All (IsEarlier t) xs → put_in_order t xs ≡ t ∷ xs
+put_in_order-first t [] all = refl
+put_in_order-first t (x ∷ xs) all = ap (λ b. cond b (t ∷ x ∷ xs) (x ∷ put_in_order t xs)) (All-head (IsEarlier t) x xs all)
 
 -- where no timer has the handle, all stay
 without-none : (handle : TimerKey) (xs : List Timer) → All (λ x. is_timer_of handle x ≡ false) xs → without handle xs ≡ xs
@@ -208,22 +209,22 @@ without-none handle (x ∷ xs) none =
     ∙ ap (λ ys. x ∷ ys) (without-none handle xs (All-tail (λ y. is_timer_of handle y ≡ false) x xs none))
 
 -- without the timer of the handle, the others stay as they were before it came
-pub without-placed : (handle : TimerKey) (t : Timer) (xs : List Timer) → is_timer_of handle t ≡ true
-    → All (λ x. is_timer_of handle x ≡ false) xs → without handle (placed t xs) ≡ xs
-without-placed handle t [] is none = ap (λ b. cond (not b) (t ∷ []) []) is
-without-placed handle t (x ∷ xs) is none =
-    cond_both (is_earlier t x) (t ∷ x ∷ xs) (x ∷ placed t xs) (λ ys. without handle ys ≡ x ∷ xs)
+pub without-put_in_order : (handle : TimerKey) (t : Timer) (xs : List Timer) → is_timer_of handle t ≡ true
+    → All (λ x. is_timer_of handle x ≡ false) xs → without handle (put_in_order t xs) ≡ xs
+without-put_in_order handle t [] is none = ap (λ b. cond (not b) (t ∷ []) []) is
+without-put_in_order handle t (x ∷ xs) is none =
+    cond_both (is_earlier t x) (t ∷ x ∷ xs) (x ∷ put_in_order t xs) (λ ys. without handle ys ≡ x ∷ xs)
     (λ _. ap (λ b. cond (not b) (t ∷ without handle (x ∷ xs)) (without handle (x ∷ xs))) is ∙ without-none handle (x ∷ xs) none)
-    (λ _. ap (λ b. cond (not b) (x ∷ without handle (placed t xs)) (without handle (placed t xs)))
+    (λ _. ap (λ b. cond (not b) (x ∷ without handle (put_in_order t xs)) (without handle (put_in_order t xs)))
     (All-head (λ y. is_timer_of handle y ≡ false) x xs none)
-    ∙ ap (λ ys. x ∷ ys) (without-placed handle t xs is (All-tail (λ y. is_timer_of handle y ≡ false) x xs none)))
+    ∙ ap (λ ys. x ∷ ys) (without-put_in_order handle t xs is (All-tail (λ y. is_timer_of handle y ≡ false) x xs none)))
 
 -- the timer of the handle is found in its place
-pub timer_of-placed : (handle : TimerKey) (t : Timer) (xs : List Timer) → is_timer_of handle t ≡ true
-    → All (λ x. is_timer_of handle x ≡ false) xs → timer_of handle (placed t xs) ≡ Some t
-timer_of-placed handle t [] is none = ap (λ b. cond b (Some t) (timer_of handle [])) is
-timer_of-placed handle t (x ∷ xs) is none =
-    cond_both (is_earlier t x) (t ∷ x ∷ xs) (x ∷ placed t xs) (λ ys. timer_of handle ys ≡ Some t)
+pub timer_of-put_in_order : (handle : TimerKey) (t : Timer) (xs : List Timer) → is_timer_of handle t ≡ true
+    → All (λ x. is_timer_of handle x ≡ false) xs → timer_of handle (put_in_order t xs) ≡ Some t
+timer_of-put_in_order handle t [] is none = ap (λ b. cond b (Some t) (timer_of handle [])) is
+timer_of-put_in_order handle t (x ∷ xs) is none =
+    cond_both (is_earlier t x) (t ∷ x ∷ xs) (x ∷ put_in_order t xs) (λ ys. timer_of handle ys ≡ Some t)
     (λ _. ap (λ b. cond b (Some t) (timer_of handle (x ∷ xs))) is)
-    (λ _. ap (λ b. cond b (Some x) (timer_of handle (placed t xs))) (All-head (λ y. is_timer_of handle y ≡ false) x xs none)
-    ∙ timer_of-placed handle t xs is (All-tail (λ y. is_timer_of handle y ≡ false) x xs none))
+    (λ _. ap (λ b. cond b (Some x) (timer_of handle (put_in_order t xs))) (All-head (λ y. is_timer_of handle y ≡ false) x xs none)
+    ∙ timer_of-put_in_order handle t xs is (All-tail (λ y. is_timer_of handle y ≡ false) x xs none))

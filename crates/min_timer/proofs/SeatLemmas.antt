@@ -9,7 +9,7 @@ use Rattle.std.proofs.lemmas.List.Edits.{swapped_from_swap, length-swap}
 use Rattle.std.proofs.lemmas.List.Sums.{sum_by-set}
 use Rattle.slab.specs.Slab.{Slab, get, slab_len, with_value, Updates}
 use Rattle.slab.proofs.SlabLemmas.{ContainsKey-within, Updates-with_value}
-use Rattle.min_timer.specs.Order.{AreSeated}
+use Rattle.min_timer.specs.Order.{SlotsHoldPlaces}
 use Rattle.min_timer.specs.declared.timer.Timer.{Timer}
 
 -- a slot in use that takes another value leaves as many in use
@@ -25,7 +25,7 @@ get-with_value : (s : Slab ℕ) (key value old : ℕ) → get s key ≡ Some old
 get-with_value s key value old is = Updates-with_value s key value (ap is_some is)
 
 -- after two timers were exchanged and their slots hold their new places
-module _ (xs ys : List Timer) (s : Slab ℕ) (a b : ℕ) (seated : AreSeated xs s) (wa : a < length xs) (wb : b < length xs)
+module _ (xs ys : List Timer) (s : Slab ℕ) (a b : ℕ) (seated : SlotsHoldPlaces xs s) (wa : a < length xs) (wb : b < length xs)
     (is : ys ≡ swap xs a b) (d : Timer) where
   -- the slot of the timer at the first place, and of the one at the second
   abbrev pub sa : ℕ
@@ -79,13 +79,15 @@ module _ (xs ys : List Timer) (s : Slab ℕ) (a b : ℕ) (seated : AreSeated xs 
           let still : get_or ys at d ≡ get_or xs at d = (swapped_from_swap xs ys a b d wa wb is).2 at neither other in
           let held : get s (get_or ys at d).handle.slot ≡ Some at = ap (λ t. get s t.handle.slot) still ∙ seated at d inside in
           rw same_default
-          (last.others (get_or ys at d).handle.slot (λ same. neither (let two : Some at ≡ Some a = sym held ∙ ap (get s) same ∙ second_slot in cc))
-          ∙ first.others (get_or ys at d).handle.slot (λ same. other (let two : Some at ≡ Some b = sym held ∙ ap (get s) same ∙ first_slot in cc))
+          (last.others (get_or ys at d).handle.slot (λ same.
+          neither (let two : Some at ≡ Some a = sym held ∙ ap (get s) same ∙ second_slot in cc))
+          ∙ first.others (get_or ys at d).handle.slot (λ same.
+          other (let two : Some at ≡ Some b = sym held ∙ ap (get s) same ∙ first_slot in cc))
           ∙ held)
 
 -- once the last timer is out and its slot is free, the others are in theirs
-pub seated-without_last : (zs : List Timer) (t : Timer) (s new : Slab ℕ) → AreSeated (zs ++ t ∷ []) s
-    → Updates s new t.handle.slot None → AreSeated zs new
+pub seated-without_last : (zs : List Timer) (t : Timer) (s new : Slab ℕ) → SlotsHoldPlaces (zs ++ t ∷ []) s
+    → Updates s new t.handle.slot None → SlotsHoldPlaces zs new
 seated-without_last zs t s new seated updates = λ at d within.
     let there : get s (get_or zs at d).handle.slot ≡ Some at =
     ap (λ x. get s x.handle.slot) (sym (get_or_append_left zs (t ∷ []) d at within))

@@ -1,5 +1,6 @@
 -- What is left of a heap once a timer is out that was exchanged with the last, and what a timer that came in makes of it.
-use Rattle.std.proofs.Common.{◌≡◌, ◌∙◌, sym, ap, subst, ℕ, ◌+◌, ◌<◌, ◌≤◌, ◌≢◌, List, [], ◌∷◌, ◌++◌, length, get_or, take, arith, IsPermutation, All, length-append}
+use Rattle.std.proofs.Common.{◌≡◌, ◌∙◌, sym, ap, subst, ℕ, ◌+◌, ◌<◌, ◌≤◌, ◌≢◌, List, [], ◌∷◌, ◌++◌, length, get_or}
+use Rattle.std.proofs.Common.{take, arith, IsPermutation, All, length-append}
 use Rattle.std.specs.List.{swap}
 use Rattle.std.proofs.Math.Seq.{take-append_seam}
 use Rattle.std.proofs.lemmas.List.{get_or_append_left}
@@ -8,7 +9,7 @@ use Rattle.std.proofs.lemmas.List.Sorted.{IsPermutation-trans, IsPermutation-swa
 use Rattle.std.proofs.lemmas.List.Elements.{All-weaker}
 use Rattle.std.proofs.lemmas.List.Kept.{AllPairs-cons}
 use Rattle.slab.specs.Slab.{Slab, slab_len}
-use Rattle.min_timer.specs.Order.{IsHeap, IsHeapBut, IsKept, AreSeated, HaveOwnStamps}
+use Rattle.min_timer.specs.Order.{IsHeap, IsHeapBut, IsKept, SlotsHoldPlaces, HaveOwnStamps}
 use Rattle.min_timer.specs.declared.timer.Timer.{Timer}
 use Rattle.min_timer.proofs.HeapLemmas.{exchanged_from_swap, but-removed, heap-shorter}
 use Rattle.min_timer.proofs.OrderLemmas.{own_stamps-permutation, own_stamps-rest}
@@ -53,7 +54,7 @@ exchanged_in_place xs slice ys rest left at last n is after value long =
     sym is ∙ written ys rest n (ap length now ∙ length-swap xs at last ∙ sym long) ∙ now
 
 -- a heap of the timers that are left is kept where each is in its slot and the other slot is free
-pub kept_left : (ws zs : List Timer) (places : Slab ℕ) → IsHeap ws → AreSeated ws places → slab_len places ≡ length ws
+pub kept_left : (ws zs : List Timer) (places : Slab ℕ) → IsHeap ws → SlotsHoldPlaces ws places → slab_len places ≡ length ws
     → HaveOwnStamps zs → IsPermutation zs ws → IsKept ws places
 kept_left ws zs places heap seated count own same =
     record { heap = heap; seated = seated; slot_count = count; own_stamps = own_stamps-permutation zs ws same own }

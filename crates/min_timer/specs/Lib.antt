@@ -1,4 +1,4 @@
 pub mod Order
 pub mod Queue
-pub mod Due
+pub mod DueTimers
 pub mod Handles

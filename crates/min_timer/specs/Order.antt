@@ -14,14 +14,14 @@ abbrev pub IsEarlier : Timer → Timer → Type 0
 IsEarlier first second = is_earlier first second ≡ true
 
 -- the timer stands before the first of these that comes due later than it
-abbrev pub placed : Timer → List Timer → List Timer
-placed timer [] = timer ∷ []
-placed timer (first ∷ rest) = if is_earlier timer first then timer ∷ first ∷ rest else first ∷ placed timer rest
+abbrev pub put_in_order : Timer → List Timer → List Timer
+put_in_order timer [] = timer ∷ []
+put_in_order timer (first ∷ rest) = if is_earlier timer first then timer ∷ first ∷ rest else first ∷ put_in_order timer rest
 
 -- the timers in the order in which they come due
 abbrev pub in_order : List Timer → List Timer
 in_order [] = []
-in_order (timer ∷ rest) = placed timer (in_order rest)
+in_order (timer ∷ rest) = put_in_order timer (in_order rest)
 
 -- the place in a heap that is above this one: 0 is the top, and below a place are its double and one or two more
 abbrev pub above : ℕ → ℕ
@@ -61,12 +61,12 @@ abbrev pub HaveOwnStamps : List Timer → Type 0
 HaveOwnStamps timers = AllPairs (λ first second. first.handle.stamp ≢ second.handle.stamp) timers
 
 -- the slot of each timer holds its place
-abbrev pub AreSeated : List Timer → Slab ℕ → Type 0
-AreSeated timers places = (at : ℕ) (d : Timer) → at < length timers → get places (get_or timers at d).handle.slot ≡ Some at
+abbrev pub SlotsHoldPlaces : List Timer → Slab ℕ → Type 0
+SlotsHoldPlaces timers places = (at : ℕ) (d : Timer) → at < length timers → get places (get_or timers at d).handle.slot ≡ Some at
 
 -- the timers are a heap, each is in its slot, no other slot is in use, and no two have the same stamp
 pub record IsKept (timers : List Timer) (places : Slab ℕ) : Type 0 where
   pub heap : IsHeap timers
-  pub seated : AreSeated timers places
+  pub seated : SlotsHoldPlaces timers places
   pub slot_count : slab_len places ≡ length timers
   pub own_stamps : HaveOwnStamps timers

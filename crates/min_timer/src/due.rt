@@ -1,7 +1,7 @@
 // The timers of a heap that are due. Below a timer that isn't due there is none, so no others are looked at than those that are
 // due and the ones directly below them.
 ghost use Rattle.std.specs.Prelude.{◌≡◌, ◌++◌, IfOk, OnOk};
-ghost use Rattle.min_timer.specs.Due.{due_at, AreAllDue};
+ghost use Rattle.min_timer.specs.DueTimers.{found_at, AreAllDue};
 ghost use Rattle.min_timer.specs.Order.{in_order, IsHeap, HaveOwnStamps};
 ghost use Rattle.min_timer.specs.Queue.{due_keys};
 
@@ -53,7 +53,7 @@ fn due_timers(timers: &[Timer], alloc: Global, time: u64) -> Result<Vec<Due>, Al
 
 /// Puts the timer of a place behind those that are due, if there is one and it is due.
 fn push_due(due: &mut Vec<Due>, timers: &[Timer], place: usize, time: u64) -> Result<(), AllocError>
-    ensures { OnOk result (due.new.items ≡ due.old.items ++ due_at timers.now time place) }
+    ensures { OnOk result (due.new.items ≡ due.old.items ++ found_at timers.now time place) }
 {
     match timers.get(place) {
         Some(timer) if timer.deadline <= time => due.push(Due {

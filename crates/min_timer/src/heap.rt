@@ -60,7 +60,8 @@ impl Heap {
         key: u64,
     ) -> Result<TimerKey, AllocError>
         requires newest { All (λ timer. timer.handle.stamp < stamp) self.old }
-        ensures added { IfOk result (λ handle. self.new ≡ with_timer (record { deadline = deadline; key = key; handle = handle }) self.old) }
+        ensures added { IfOk result (λ handle. self.new
+            ≡ with_timer (record { deadline = deadline; key = key; handle = handle }) self.old) }
         ensures stamped { IfOk result (λ handle. handle.stamp ≡ stamp) }
         ensures err { OnErr result (self.new ≡ self.old) }
     {

@@ -1,8 +1,9 @@
 // A heap of timers in a list, where the slot of each timer holds its place: how timers go to other places.
-ghost use Rattle.std.specs.Prelude.{◌≡◌, ◌≢◌, ◌+◌, ◌<◌, ◌≤◌, ℕ, [], ◌∷◌, ◌++◌, true, false, length, get_or, IsPermutation, All, IfSome, IfNone, vec_len, vec_capacity};
+ghost use Rattle.std.specs.Prelude.{◌≡◌, ◌≢◌, ◌+◌, ◌<◌, ◌≤◌, ℕ, [], ◌∷◌, ◌++◌, true, false, length, get_or};
+ghost use Rattle.std.specs.Prelude.{IsPermutation, All, IfSome, IfNone, vec_len, vec_capacity};
 ghost use Rattle.std.specs.List.{swap};
 ghost use Rattle.slab.specs.Slab.{get, slab_len, HasRoomFor};
-ghost use Rattle.min_timer.specs.Order.{is_earlier, above, IsHeap, IsHeapBut, MayRise, MaySink, AreSeated, HaveOwnStamps, IsKept};
+ghost use Rattle.min_timer.specs.Order.{is_earlier, above, IsHeap, IsHeapBut, MayRise, MaySink, SlotsHoldPlaces, HaveOwnStamps, IsKept};
 ghost use Rattle.min_timer.specs.Queue.{is_timer_of};
 ghost use Rattle.min_timer.specs.declared.timer.Timer.{Timer};
 
@@ -12,7 +13,7 @@ use slab::Slab;
 
 /// The place of the timer of this handle, if it waits.
 pub(crate) fn place_of(timers: &[Timer], places: &Slab<usize>, handle: TimerKey) -> Option<usize>
-    requires { AreSeated timers.now places.now }
+    requires { SlotsHoldPlaces timers.now places.now }
     ensures found { IfSome result (λ at. (at < length timers.now) × ((d : Timer) → is_timer_of handle (get_or timers.now at d) ≡ true)) }
     ensures none { IfNone result (All (λ timer. is_timer_of handle timer ≡ false) timers.now) }
 {
@@ -27,9 +28,9 @@ pub(crate) fn place_of(timers: &[Timer], places: &Slab<usize>, handle: TimerKey)
 /// Exchanges the timers at two places.
 fn exchange(timers: &mut [Timer], places: &mut Slab<usize>, a: usize, b: usize)
     requires bounds { (a < length timers.old) × (b < length timers.old) }
-    requires seated { AreSeated timers.old places.old }
+    requires seated { SlotsHoldPlaces timers.old places.old }
     ensures after { timers.new ≡ swap timers.old a b }
-    ensures seated { AreSeated timers.new places.new }
+    ensures seated { SlotsHoldPlaces timers.new places.new }
     ensures count { slab_len places.new ≡ slab_len places.old }
 {
     timers.swap(a, b);
@@ -59,11 +60,11 @@ fn first_below(timers: &[Timer], at: usize) -> Option<usize>
 /// Brings the timer at the place up to where it belongs.
 fn rise(timers: &mut [Timer], places: &mut Slab<usize>, mut at: usize)
     requires bounds { at < length timers.old }
-    requires seated { AreSeated timers.old places.old }
+    requires seated { SlotsHoldPlaces timers.old places.old }
     requires heap { MayRise timers.old at }
     ensures same { IsPermutation timers.old timers.new }
     ensures heap { IsHeap timers.new }
-    ensures seated { AreSeated timers.new places.new }
+    ensures seated { SlotsHoldPlaces timers.new places.new }
     ensures count { slab_len places.new ≡ slab_len places.old }
 {
     while at > 0 {
@@ -79,11 +80,11 @@ fn rise(timers: &mut [Timer], places: &mut Slab<usize>, mut at: usize)
 /// Brings the timer at the place down to where it belongs.
 fn sink(timers: &mut [Timer], places: &mut Slab<usize>, mut at: usize)
     requires bounds { at < length timers.old }
-    requires seated { AreSeated timers.old places.old }
+    requires seated { SlotsHoldPlaces timers.old places.old }
     requires heap { MaySink timers.old at }
     ensures same { IsPermutation timers.old timers.new }
     ensures heap { IsHeap timers.new }
-    ensures seated { AreSeated timers.new places.new }
+    ensures seated { SlotsHoldPlaces timers.new places.new }
     ensures count { slab_len places.new ≡ slab_len places.old }
 {
     while let Some(below) = first_below(timers, at) {
@@ -98,11 +99,11 @@ fn sink(timers: &mut [Timer], places: &mut Slab<usize>, mut at: usize)
 /// Brings the timer at the place to where it belongs.
 fn settle(timers: &mut [Timer], places: &mut Slab<usize>, at: usize)
     requires bounds { at < length timers.old }
-    requires seated { AreSeated timers.old places.old }
+    requires seated { SlotsHoldPlaces timers.old places.old }
     requires heap { IsHeapBut timers.old at }
     ensures same { IsPermutation timers.old timers.new }
     ensures heap { IsHeap timers.new }
-    ensures seated { AreSeated timers.new places.new }
+    ensures seated { SlotsHoldPlaces timers.new places.new }
     ensures count { slab_len places.new ≡ slab_len places.old }
 {
     if at > 0 && timers[at].is_earlier(&timers[(at - 1) / 2]) {
@@ -136,7 +137,7 @@ fn take_out(timers: &mut Vec<Timer>, places: &mut Slab<usize>, at: usize) -> Tim
     ensures own_stamps { HaveOwnStamps timers.new.items }
     ensures but { at < length timers.new.items → IsHeapBut timers.new.items at }
     ensures heap { length timers.new.items ≤ at → IsHeap timers.new.items }
-    ensures seated { AreSeated timers.new.items places.new }
+    ensures seated { SlotsHoldPlaces timers.new.items places.new }
     ensures count { slab_len places.new ≡ length timers.new.items }
 {
     let last = timers.len() - 1;
@@ -147,9 +148,9 @@ fn take_out(timers: &mut Vec<Timer>, places: &mut Slab<usize>, at: usize) -> Tim
 /// Takes the timer at the last place out, and frees its slot.
 fn take_last(timers: &mut Vec<Timer>, places: &mut Slab<usize>) -> Timer
     requires some { 0 < length timers.old.items }
-    requires seated { AreSeated timers.old.items places.old }
+    requires seated { SlotsHoldPlaces timers.old.items places.old }
     ensures items { timers.old.items ≡ timers.new.items ++ result ∷ [] }
-    ensures seated { AreSeated timers.new.items places.new }
+    ensures seated { SlotsHoldPlaces timers.new.items places.new }
     ensures count { slab_len places.new + 1 ≡ slab_len places.old }
 {
     let last = timers.pop().unwrap();

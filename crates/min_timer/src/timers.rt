@@ -167,7 +167,7 @@ impl Timers {
     }
 
     /// The keys of the timers whose deadline is at most this time, in milliseconds, in the order in which
-    /// they come due. None of them is taken out. Takes memory; n log n in the number of those keys.
+    /// they come due. None of them is taken out. Takes memory; linear in the number of those keys, times its logarithm.
     pub fn due(&self, alloc: Global, time: u64) -> Result<Vec<u64>, TimerFault>
         ensures keys { IfOk result (λ keys. keys.items ≡ due_keys time self.now.pending) }
         ensures refused { IfErr result (λ fault. fault ≡ TimerFault.Memory) }

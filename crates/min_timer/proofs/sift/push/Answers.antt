@@ -14,7 +14,8 @@ new_timer c = record {
 
 -- what the list is
 left : (c : goal.After-timers-1) →
-    take c.push_reserved.new.self.len (c.rise.new.timers ++ drop (length c.rise.new.timers) c.push_reserved.new.self.items) ≡ c.rise.new.timers
+    take c.push_reserved.new.self.len (c.rise.new.timers ++ drop (length c.rise.new.timers) c.push_reserved.new.self.items) ≡
+    c.rise.new.timers
 left c =
     written c.rise.new.timers (drop (length c.rise.new.timers) c.push_reserved.new.self.items) c.push_reserved.new.self.len
     (length_permutation c.deref_mut.result.now c.rise.new.timers c.rise.ensures.same ∙ c.deref_mut.ensures.len)

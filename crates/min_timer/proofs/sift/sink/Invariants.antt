@@ -1,7 +1,7 @@
 -- The timers stay the same ones, in their slots, and are a heap but for the one that sinks.
 use Rattle.std.proofs.Common.{◌≡◌, ◌-◌, ◌<◌, length, IsPermutation}
 use Rattle.slab.specs.Slab.{slab_len}
-use Rattle.min_timer.specs.Order.{MaySink, AreSeated}
+use Rattle.min_timer.specs.Order.{MaySink, SlotsHoldPlaces}
 use Rattle.min_timer.proofs.sift.sink.Given as goal
 
 abbrev pub invariant-loop-below : goal.invariant-loop-below
@@ -10,7 +10,7 @@ invariant-loop-below l = record {
   long : length l.timers ≡ length l.initial.timers;
   same : IsPermutation l.initial.timers l.timers;
   heap : MaySink l.timers l.at;
-  seated : AreSeated l.timers l.places;
+  seated : SlotsHoldPlaces l.timers l.places;
   count : slab_len l.places ≡ slab_len l.initial.places;
 }
 

@@ -23,16 +23,16 @@ abbrev pub IsDueAt : List Timer → ℕ → ℕ → Type 0
 IsDueAt timers now at = (at < length timers) × ((timer_in timers at).deadline ≤ now)
 
 -- the timer at the place, if there is one and it is due at the moment
-abbrev pub due_at : List Timer → ℕ → ℕ → List Due
-due_at timers now at =
+abbrev pub found_at : List Timer → ℕ → ℕ → List Due
+found_at timers now at =
     if nat_lt at (length timers) && nat_le (timer_in timers at).deadline now then entry_at timers at ∷ [] else []
 
 -- timers that are due at the moment, by their places
-pub record AreDue (timers : List Timer) (now : ℕ) (due : List Due) : Type 0 where
+pub record AreFoundDue (timers : List Timer) (now : ℕ) (due : List Due) : Type 0 where
   pub rising : AllPairs (λ first second. first.place < second.place) due
   pub each : All (λ e. IsDueAt timers now e.place × (e ≡ entry_at timers e.place)) due
 
 -- all timers that are due at the moment, by their places
 pub record AreAllDue (timers : List Timer) (now : ℕ) (due : List Due) : Type 0 where
-  pub part : AreDue timers now due
+  pub part : AreFoundDue timers now due
   pub all : (at : ℕ) → IsDueAt timers now at → Contains due (entry_at timers at)
