@@ -6,7 +6,7 @@ use Rattle.std.specs.Cmp.{IsStrictWeakOrder}
 use Rattle.std.specs.List.{AllPairs}
 use Rattle.std.specs.List.Sorted.{IsSortedBy}
 use Rattle.std.specs.Ordering.{ordering_then}
-use Rattle.std.proofs.lemmas.Bool.{cond_both, and_parts, ltb-true, leb-true, le-leb}
+use Rattle.std.proofs.lemmas.Bool.{cases_eq, cond_both, and_parts, ltb-true, leb-true, le-leb}
 use Rattle.std.proofs.lemmas.Bool.Decides.{nat_tests}
 use Rattle.std.proofs.lemmas.List.{get_or_append_left, get_or_default, get_or_read, append-nil, get_or-map, length-map}
 use Rattle.std.proofs.lemmas.List.Elements.{All-nil, All-cons, All-head, All-tail, All-push, All-weaker, All-map, All-filter, All-get_or}
@@ -14,7 +14,7 @@ use Rattle.std.proofs.lemmas.List.Elements.{All-contains, filter_passes, Contain
 use Rattle.std.proofs.lemmas.List.Kept.{AllPairs-filter}
 use Rattle.std.proofs.lemmas.List.Quantifiers.{all_pairs_push}
 use Rattle.std.proofs.lemmas.List.Sorted.{All-permutation, Contains-permutation, IsPermutation-map, sorted_far}
-use Rattle.min_timer.specs.DueTimers.{timer_in, entry_at, IsDueAt, found_at, AreFoundDue, AreAllDue}
+use Rattle.min_timer.specs.DueTimers.{timer_in, entry_at, IsDueAt, found_at, found_below, AreFoundDue, AreAllDue}
 use Rattle.min_timer.specs.Order.{is_earlier, IsEarlier, above, IsHeap, HaveOwnStamps, in_order}
 use Rattle.min_timer.specs.Queue.{due_keys}
 use Rattle.min_timer.specs.declared.due.Due.{Due}
@@ -34,10 +34,6 @@ found_at-cases P timers now at some none =
 -- at a place with a timer that is due it is that
 found_at-some : (timers : List Timer) (now at : ℕ) → IsDueAt timers now at → found_at timers now at ≡ entry_at timers at ∷ []
 found_at-some timers now at is = grind (arith, nat_tests)
-
--- behind the last place it is nothing
-pub found_at-past : (timers : List Timer) (now at : ℕ) → length timers ≤ at → found_at timers now at ≡ []
-found_at-past timers now at h = grind (arith, nat_tests)
 
 -- timers that are due, at places below the bound
 record IsPart (timers : List Timer) (now : ℕ) (due : List Due) (bound : ℕ) : Type 0 where
@@ -75,7 +71,7 @@ index-le due (suc j) d rising h =
 pub record IsWalk (timers : List Timer) (now : ℕ) (due : List Due) (next : ℕ) : Type 0 where
   pub reached : next ≤ length due
   pub are : AreFoundDue timers now due
-  pub ahead : (j : ℕ) (d : Due) → next ≤ j → j < length due → All (λ e. e.place < 2 * (get_or due j d).place + 1) due
+  pub ahead : (j : ℕ) (d : Due) → next ≤ j → j < length due → All (λ e. e.place < 4 * (get_or due j d).place + 1) due
   pub top : IsDueAt timers now 0 → Contains due (entry_at timers 0)
   pub below : (j : ℕ) (d : Due) (k : ℕ) → j < next → (get_or due j d).place ≡ above k → 0 < k → IsDueAt timers now k →
       Contains due (entry_at timers k)
@@ -99,7 +95,7 @@ walk-start timers now =
     record {
       reached = omega arith;
       are = part.are;
-      ahead = λ j d l h. All-weaker (λ e. e.place < 1) (λ e. e.place < 2 * (get_or (found_at timers now 0) j d).place + 1)
+      ahead = λ j d l h. All-weaker (λ e. e.place < 1) (λ e. e.place < 4 * (get_or (found_at timers now 0) j d).place + 1)
           (λ e low. omega arith) (found_at timers now 0) part.low;
       top = contains_due timers now 0;
       below = λ j d k l same up is. absurd (omega arith);
@@ -107,7 +103,7 @@ walk-start timers now =
 
 -- the timers that are due below the entry come behind the others
 walk-on : (timers : List Timer) (now : ℕ) (due more : List Due) (next : ℕ) (e : Due) → IsWalk timers now due next → next < length due →
-    e ≡ get_or due next e → IsPart timers now (due ++ more) (2 * e.place + 2 + 1) →
+    e ≡ get_or due next e → IsPart timers now (due ++ more) (4 * e.place + 4 + 1) →
     ((k : ℕ) → e.place ≡ above k → 0 < k → IsDueAt timers now k → Contains more (entry_at timers k)) →
     IsWalk timers now (due ++ more) (next + 1)
 walk-on timers now due more next e walk l is part found =
@@ -118,7 +114,7 @@ walk-on timers now due more next e walk l is part found =
           let later : (get_or (due ++ more) next d).place < (get_or (due ++ more) j d).place = part.are.rising next j d (omega arith) h in
           let same : get_or (due ++ more) next d ≡ e = here d in
           let here' : (get_or (due ++ more) next d).place ≡ e.place = ap (λ x. x.place) same in
-          All-weaker (λ x. x.place < 2 * e.place + 2 + 1) (λ x. x.place < 2 * (get_or (due ++ more) j d).place + 1)
+          All-weaker (λ x. x.place < 4 * e.place + 4 + 1) (λ x. x.place < 4 * (get_or (due ++ more) j d).place + 1)
           (λ x low. omega arith) (due ++ more) part.low;
       top = λ due_0. Contains-append_left due more (entry_at timers 0) (walk.top due_0);
       below = λ j d k m same up due_k. first_or_last j d k m same up due_k (split j m);
@@ -139,35 +135,59 @@ walk-on timers now due more next e walk l is part found =
         Contains-append_right due more (entry_at timers k)
         (found k (ap (λ x. x.place) (sym (here d)) ∙ ap (λ i. (get_or (due ++ more) i d).place) (sym at) ∙ same) up due_k)
 
--- the two places below an entry
+-- the places directly below an entry
 pub walk-step : (timers : List Timer) (now : ℕ) (due : List Due) (next : ℕ) (e : Due) → IsWalk timers now due next → next < length due →
-    e ≡ get_or due next e →
-    IsWalk timers now ((due ++ found_at timers now (2 * e.place + 1)) ++ found_at timers now (2 * e.place + 2)) (next + 1)
-walk-step timers now due next e walk l is =
-    rw append_assoc (walk-on timers now due (one ++ two) next e walk l is (rw (← append_assoc) both) below)
+    e ≡ get_or due next e → IsWalk timers now (due ++ found_below timers now e.place) (next + 1)
+walk-step timers now due next e walk l is = walk-on timers now due (found_below timers now e.place) next e walk l is part below
   where
     one : List Due
-    one = found_at timers now (2 * e.place + 1)
+    one = found_at timers now (4 * e.place + 1)
 
     two : List Due
-    two = found_at timers now (2 * e.place + 2)
+    two = found_at timers now (4 * e.place + 2)
 
-    both : IsPart timers now ((due ++ one) ++ two) (2 * e.place + 2 + 1)
-    both =
-        part-more timers now (due ++ one) (2 * e.place + 1 + 1) (2 * e.place + 2)
-        (part-more timers now due (2 * e.place + 1) (2 * e.place + 1)
-        (record { are = walk.are; low = rw (← is) at (walk.ahead next e (omega arith) l) }) (omega arith)) (omega arith)
+    three : List Due
+    three = found_at timers now (4 * e.place + 3)
 
-    which : (k : ℕ) → e.place ≡ above k → 0 < k → (k ≡ 2 * e.place + 1) ⊎ (k ≡ 2 * e.place + 2)
-    which k same up = grind arith
+    four : List Due
+    four = found_at timers now (4 * e.place + 4)
 
-    below : (k : ℕ) → e.place ≡ above k → 0 < k → IsDueAt timers now k → Contains (one ++ two) (entry_at timers k)
+    start : IsPart timers now due (4 * e.place + 1)
+    start = record { are = walk.are; low = rw (← is) at (walk.ahead next e (omega arith) l) }
+
+    each : IsPart timers now ((((due ++ one) ++ two) ++ three) ++ four) (4 * e.place + 4 + 1)
+    each =
+        part-more timers now (((due ++ one) ++ two) ++ three) (4 * e.place + 3 + 1) (4 * e.place + 4)
+        (part-more timers now ((due ++ one) ++ two) (4 * e.place + 2 + 1) (4 * e.place + 3)
+        (part-more timers now (due ++ one) (4 * e.place + 1 + 1) (4 * e.place + 2)
+        (part-more timers now due (4 * e.place + 1) (4 * e.place + 1) start (omega arith)) (omega arith)) (omega arith)) (omega arith)
+
+    part : IsPart timers now (due ++ found_below timers now e.place) (4 * e.place + 4 + 1)
+    part =
+        subst (λ es. IsPart timers now es (4 * e.place + 4 + 1))
+        (append_assoc ((due ++ one) ++ two) three four ∙ append_assoc (due ++ one) two (three ++ four)
+        ∙ append_assoc due one (two ++ (three ++ four))) each
+
+    found : (k i : ℕ) → IsDueAt timers now k → k ≡ i → Contains (found_at timers now i) (entry_at timers k)
+    found k i due_k at = subst (λ i. Contains (found_at timers now i) (entry_at timers k)) at (contains_due timers now k due_k)
+
+    below : (k : ℕ) → e.place ≡ above k → 0 < k → IsDueAt timers now k → Contains (found_below timers now e.place) (entry_at timers k)
     below k same up due_k =
-        elim (which k same up) [
-          | inl at ↦ Contains-append_left one two (entry_at timers k) (subst (λ i. Contains (found_at timers now i) (entry_at timers k)) at
-              (contains_due timers now k due_k))
-          | inr at ↦ Contains-append_right one two (entry_at timers k) (subst (λ i. Contains (found_at timers now i) (entry_at timers k)) at
-              (contains_due timers now k due_k))
+        elim (cases_eq k (4 * e.place + 1)) [
+          | inl at ↦ Contains-append_left one (two ++ (three ++ four)) (entry_at timers k) (found k (4 * e.place + 1) due_k at)
+          | inr not_first ↦
+              Contains-append_right one (two ++ (three ++ four)) (entry_at timers k)
+              (elim (cases_eq k (4 * e.place + 2)) [
+                | inl at ↦ Contains-append_left two (three ++ four) (entry_at timers k) (found k (4 * e.place + 2) due_k at)
+                | inr not_second ↦
+                    Contains-append_right two (three ++ four) (entry_at timers k)
+                    (elim (cases_eq k (4 * e.place + 3)) [
+                      | inl at ↦ Contains-append_left three four (entry_at timers k) (found k (4 * e.place + 3) due_k at)
+                      | inr not_third ↦
+                          Contains-append_right three four (entry_at timers k)
+                          (found k (4 * e.place + 4) due_k (omega (arith, same, up, not_first, not_second, not_third)))
+                    ])
+              ])
         ]
 
 -- what comes no later than a timer that is due is due

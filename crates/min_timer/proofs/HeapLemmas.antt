@@ -1,5 +1,5 @@
 -- A heap of timers: a step of a timer up or down, when it has come to its place, and what an edit of the list leaves of the heap.
-use Rattle.std.proofs.Common.{◌≡◌, ◌≢◌, ◌∙◌, ap, ℕ, zero, suc, ◌<◌, ◌≤◌, Bool, true, false, List, length, get_or}
+use Rattle.std.proofs.Common.{◌≡◌, ◌≢◌, ◌∙◌, ap, ℕ, zero, suc, ◌+◌, ◌<◌, ◌≤◌, Bool, true, false, List, length, get_or}
 use Rattle.std.proofs.Common.{arith, inl, inr}
 use Rattle.std.specs.List.{swap}
 use Rattle.std.proofs.lemmas.Bool.{cases_eq, false_from_ne_true}
@@ -181,3 +181,41 @@ top-first-to xs heap (suc n) k d kn kl =
 -- no timer of a heap comes before the top
 pub top-first : (xs : List Timer) → IsHeap xs → (k : ℕ) (d : Timer) → k < length xs → is_earlier (get_or xs k d) (get_or xs 0 d) ≡ false
 top-first xs heap k d kl = top-first-to xs heap k k d (omega arith) kl
+
+-- of the places from one on, up to an end, this one has a timer that none of the others comes before
+pub record IsFirstOf (xs : List Timer) (from end k : ℕ) : Type 0 where
+  pub low : from ≤ k
+  pub high : k < end
+  pub first : (other : ℕ) → from ≤ other → other < end → IsNotEarlierAt xs other k
+
+-- a place alone
+pub first-alone : (xs : List Timer) (from : ℕ) → IsFirstOf xs from (from + 1) from
+first-alone xs from = record {
+  low = omega arith;
+  high = omega arith;
+  first = λ other low high d. let same : other ≡ from = omega arith in rw same (not_earlier-refl (get_or xs from d));
+}
+
+-- the next one comes before
+pub first-replaced : (xs : List Timer) (from end k : ℕ) → IsFirstOf xs from end k → IsEarlierAt xs end k → IsFirstOf xs from (end + 1) end
+first-replaced xs from end k is earlier = record {
+  low = omega (arith, is.low, is.high);
+  high = omega arith;
+  first = λ other low high d.
+      elim (cases_eq other end) [
+        | inl same ↦ rw same (not_earlier-refl (get_or xs end d))
+        | inr differs ↦ chain xs other k end (is.first other low (omega arith)) (turn xs end k earlier) d
+      ];
+}
+
+-- the next one does not
+pub first-kept : (xs : List Timer) (from end k : ℕ) → IsFirstOf xs from end k → IsNotEarlierAt xs end k → IsFirstOf xs from (end + 1) k
+first-kept xs from end k is later = record {
+  low = is.low;
+  high = omega (arith, is.high);
+  first = λ other low high d.
+      elim (cases_eq other end) [
+        | inl same ↦ rw same (later d)
+        | inr differs ↦ is.first other low (omega arith) d
+      ];
+}

@@ -1,5 +1,5 @@
 -- The timers of a heap that are due, each with its place.
-use Rattle.std.specs.Prelude.{◌≡◌, ℕ, ◌<◌, ◌≤◌, ◌&&◌, nat_lt, nat_le, if◌then◌else◌, List, [], ◌∷◌, length, get_or, All, Contains}
+use Rattle.std.specs.Prelude.{◌≡◌, ℕ, ◌+◌, ◌*◌, ◌<◌, ◌≤◌, ◌&&◌, nat_lt, nat_le, if◌then◌else◌, List, [], ◌∷◌, ◌++◌, length, get_or, All, Contains}
 use Rattle.std.specs.List.{AllPairs}
 use Rattle.min_timer.specs.declared.due.Due.{Due}
 use Rattle.min_timer.specs.declared.timer.Timer.{Timer}
@@ -26,6 +26,12 @@ IsDueAt timers now at = (at < length timers) × ((timer_in timers at).deadline �
 abbrev pub found_at : List Timer → ℕ → ℕ → List Due
 found_at timers now at =
     if nat_lt at (length timers) && nat_le (timer_in timers at).deadline now then entry_at timers at ∷ [] else []
+
+-- the timers that are due at the moment directly below the place
+abbrev pub found_below : List Timer → ℕ → ℕ → List Due
+found_below timers now at =
+    found_at timers now (4 * at + 1)
+    ++ (found_at timers now (4 * at + 2) ++ (found_at timers now (4 * at + 3) ++ found_at timers now (4 * at + 4)))
 
 -- timers that are due at the moment, by their places
 pub record AreFoundDue (timers : List Timer) (now : ℕ) (due : List Due) : Type 0 where

@@ -23,9 +23,9 @@ abbrev pub in_order : List Timer → List Timer
 in_order [] = []
 in_order (timer ∷ rest) = put_in_order timer (in_order rest)
 
--- the place in a heap that is above this one: 0 is the top, and below a place are its double and one or two more
+-- the place in a heap that is above this one: 0 is the top, and below a place are the four from its fourfold and one on
 abbrev pub above : ℕ → ℕ
-above at = (at - 1) / 2
+above at = (at - 1) / 4
 
 -- the timer at the place does not come due before the one above it
 abbrev pub IsUnder : List Timer → ℕ → Type 0

@@ -1,7 +1,7 @@
 // The timers of a heap that are due. Below a timer that isn't due there is none, so no others are looked at than those that are
 // due and the ones directly below them.
-ghost use Rattle.std.specs.Prelude.{◌≡◌, ◌++◌, IfOk, OnOk};
-ghost use Rattle.min_timer.specs.DueTimers.{found_at, AreAllDue};
+ghost use Rattle.std.specs.Prelude.{◌≡◌, ◌<◌, ◌++◌, length, IfOk, OnOk};
+ghost use Rattle.min_timer.specs.DueTimers.{found_at, found_below, AreAllDue};
 ghost use Rattle.min_timer.specs.Order.{in_order, IsHeap, HaveOwnStamps};
 ghost use Rattle.min_timer.specs.Queue.{due_keys};
 
@@ -42,13 +42,27 @@ fn due_timers(timers: &[Timer], alloc: Global, time: u64) -> Result<Vec<Due>, Al
     let mut next = 0;
     while next < due.len() {
         let place = due[next].place;
-        if place < timers.len() / 2 {
-            push_due(&mut due, timers, 2 * place + 1, time)?;
-            push_due(&mut due, timers, 2 * place + 2, time)?;
-        }
+        push_due_below(&mut due, timers, place, time)?;
         next += 1;
     }
     Ok(due)
+}
+
+/// Puts the timers directly below a place behind those that are due, if they are due.
+fn push_due_below(
+    due: &mut Vec<Due>,
+    timers: &[Timer],
+    place: usize,
+    time: u64,
+) -> Result<(), AllocError>
+    requires { place < length timers.now }
+    ensures { OnOk result (due.new.items ≡ due.old.items ++ found_below timers.now time place) }
+{
+    push_due(due, timers, 4 * place + 1, time)?;
+    push_due(due, timers, 4 * place + 2, time)?;
+    push_due(due, timers, 4 * place + 3, time)?;
+    push_due(due, timers, 4 * place + 4, time)?;
+    Ok(())
 }
 
 /// Puts the timer of a place behind those that are due, if there is one and it is due.

@@ -1,4 +1,5 @@
-// The timers that wait, in a heap by when they come due. The invariants:
+// The timers that wait, in a heap by when they come due: below each place are four, so that a timer goes down half as many steps as in
+// a binary heap. The invariants:
 // 1. no timer comes due before the one above it;
 // 2. the slot of each timer holds its place;
 // 3. there are as many slots in use as timers;

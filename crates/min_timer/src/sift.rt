@@ -40,21 +40,22 @@ fn exchange(timers: &mut [Timer], places: &mut Slab<usize>, a: usize, b: usize)
 
 /// The place below this one whose timer comes due first, or None where there is none below.
 fn first_below(timers: &[Timer], at: usize) -> Option<usize>
+    requires { at < length timers.now }
     ensures below { IfSome result (λ k. (k < length timers.now) × (at < k) × (above k ≡ at)) }
     ensures first { IfSome result (λ k. (other : ℕ) (d : Timer) → 0 < other → other < length timers.now → above other ≡ at
         → is_earlier (get_or timers.now other d) (get_or timers.now k d) ≡ false) }
     ensures none { IfNone result ((k : ℕ) → 0 < k → k < length timers.now → above k ≢ at) }
 {
-    if at >= timers.len() / 2 {
+    let mut first = 4 * at + 1;
+    if first >= timers.len() {
         return None;
     }
-    let left = 2 * at + 1;
-    let right = left + 1;
-    if right < timers.len() && timers[right].is_earlier(&timers[left]) {
-        Some(right)
-    } else {
-        Some(left)
+    for other in first + 1..timers.len().min(first + 4) {
+        if timers[other].is_earlier(&timers[first]) {
+            first = other;
+        }
     }
+    Some(first)
 }
 
 /// Brings the timer at the place up to where it belongs.
@@ -68,7 +69,7 @@ fn rise(timers: &mut [Timer], places: &mut Slab<usize>, mut at: usize)
     ensures count { slab_len places.new ≡ slab_len places.old }
 {
     while at > 0 {
-        let over = (at - 1) / 2;
+        let over = (at - 1) / 4;
         if !timers[at].is_earlier(&timers[over]) {
             return;
         }
@@ -106,7 +107,7 @@ fn settle(timers: &mut [Timer], places: &mut Slab<usize>, at: usize)
     ensures seated { SlotsHoldPlaces timers.new places.new }
     ensures count { slab_len places.new ≡ slab_len places.old }
 {
-    if at > 0 && timers[at].is_earlier(&timers[(at - 1) / 2]) {
+    if at > 0 && timers[at].is_earlier(&timers[(at - 1) / 4]) {
         rise(timers, places, at);
     } else {
         sink(timers, places, at);
