@@ -1,5 +1,6 @@
 -- The timers of a heap that are due, each with its place.
-use Rattle.std.specs.Prelude.{◌≡◌, ℕ, ◌+◌, ◌*◌, ◌<◌, ◌≤◌, ◌&&◌, nat_lt, nat_le, if◌then◌else◌, List, [], ◌∷◌, ◌++◌, length, get_or, All, Contains}
+use Rattle.std.specs.Prelude.{◌≡◌, ℕ, ◌+◌, ◌*◌, ◌<◌, ◌≤◌, ◌&&◌, nat_lt, nat_le, if◌then◌else◌}
+use Rattle.std.specs.Prelude.{List, [], ◌∷◌, ◌++◌, length, get_or, All, Contains}
 use Rattle.std.specs.List.{AllPairs}
 use Rattle.min_timer.specs.declared.due.Due.{Due}
 use Rattle.min_timer.specs.declared.timer.Timer.{Timer}
