@@ -55,4 +55,5 @@ returns-clause-below c =
 
 pub returns-clause-first : goal.returns-clause-first
 returns-clause-first c = λ other d up inside same.
-    c.loop-other.invariant.first other (omega (arith, same, up)) (omega (arith, same, up, inside, c.min-other-end.ensures, c.loop-other-test.false)) d
+    c.loop-other.invariant.first other (omega (arith, same, up))
+    (omega (arith, same, up, inside, c.min-other-end.ensures, c.loop-other-test.false)) d
