@@ -7,6 +7,7 @@ ghost use Rattle.ev_types.specs.Sides.{number};
 ghost use Rattle.ev_port.specs.Marking.{marks_by, after_marks};
 ghost use Rattle.ev_port.specs.Table.{side_of, row_by, rows_before, named, wants_some, is_marked, is_ready_by, marked_by, RowsStay};
 ghost use Rattle.ev_port.specs.Table.{IsNextWanted, IsPreviousWanted};
+ghost use Rattle.number_set.specs.Next.{in_either, IsPrevious};
 
 use crate::{MarkWant, Want};
 use ev_types::{NoMemory, Side, SideId};
@@ -86,6 +87,16 @@ fn has_want(read: &NumberSet, write: &NumberSet, number: usize) -> bool
     ensures { result ≡ wants_some (row_by read.now.has write.now.has number) }
 {
     read.contains(number) || write.contains(number)
+}
+
+// The last number before another of a side that wants something. The one directly before it is looked at first.
+fn last_number(read: &NumberSet, write: &NumberSet, before: usize) -> Option<usize>
+    ensures { IsPrevious (in_either read.now.has read.now.has write.now.has write.now.has) before result }
+{
+    if before > 0 && has_want(read, write, before - 1) {
+        return Some(before - 1);
+    }
+    NumberSet::previous_in_either((read, read), (write, write), before)
 }
 
 // How many want something, once one did or not and now does or not.
@@ -354,11 +365,7 @@ impl WantTable {
     pub fn previous_wanted(&self, before: usize) -> Option<Want>
         ensures { IsPreviousWanted self.now before result }
     {
-        let number = NumberSet::previous_in_either(
-            (&self.read, &self.read),
-            (&self.write, &self.write),
-            before,
-        )?;
+        let number = last_number(&self.read, &self.write, before)?;
         Some(row_of(&self.read, &self.write, number))
     }
 }
