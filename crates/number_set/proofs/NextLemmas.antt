@@ -37,6 +37,12 @@ either-bits first second third fourth at a b c d a_is b_is c_is d_is k within =
     ap₂ (λ x y. x || y) (is_set_and a b k ∙ ap₂ (λ x y. x && y) (bit first a a_is) (bit second b b_is))
     (is_set_and c d k ∙ ap₂ (λ x y. x && y) (bit third c c_is) (bit fourth d d_is))
 
+-- the bits of one word are its numbers
+pub own-bits : (words : List ℕ) (at word : ℕ) → word ≡ get_or words at 0 → (k : ℕ) → k < 64
+    → is_set word k ≡ has_number words (64 * at + k)
+own-bits words at word is k within =
+    ap (λ v. is_set v k) is ∙ sym (has_number_at words (64 * at + k) at k refl within)
+
 -- no number from the low one on and below the high one passes the test
 abbrev pub NoneBetween : (ℕ → Bool) → ℕ → ℕ → Type 0
 NoneBetween p low high = (i : ℕ) → low ≤ i → i < high → p i ≡ false

@@ -2,7 +2,7 @@
 use Rattle.std.proofs.Common.{◌≡◌, ◌≢◌, inl, inr, ◌∙◌, sym, ap, subst, ℕ, ◌+◌, ◌*◌, ◌/◌, ◌%◌, ◌<◌, ◌≤◌, Bool, true, false, ◌&&◌, ◌==◌}
 use Rattle.std.proofs.Common.{nat_lt, List, [], ◌∷◌, ◌++◌, length, length-append, get_or, if◌then◌else◌, arith}
 use Rattle.std.proofs.lemmas.Bool.{cases_Bool, cases_lt, cases_eq, eq-eqb, ne_eqb, lt-ltb, le-ltb, and_parts, or_cases, or_left, or_right}
-use Rattle.std.proofs.lemmas.Bool.{both_ways}
+use Rattle.std.proofs.lemmas.Bool.{both_ways, ltb-true}
 use Rattle.std.proofs.lemmas.List.{get_or_past}
 use Rattle.number_set.specs.Next.{in_either}
 use Rattle.number_set.specs.Words.{AreTops, has_number, is_set}
@@ -66,6 +66,26 @@ some_word words n has = elim (cases_lt 0 (get_or words (n / 64) 0)) [
 some_top : (words tops : List ℕ) (n : ℕ) → AreTops words tops → has_number words n ≡ true → has_number tops (n / 64) ≡ true
 some_top words tops n are has = are.places (n / 64) ∙ some_word words n has
 
+-- where a place is of no word that isn't 0, no number of its word is there
+pub none_of_own : (words tops : List ℕ) (n k : ℕ) → AreTops words tops → n / 64 ≡ k → has_number tops k ≡ false
+    → has_number words n ≡ false
+none_of_own words tops n k are is none = elim (cases_Bool (has_number words n)) [
+  | inl has ↦ absurd (both_ways _ none (ap (has_number tops) (sym is) ∙ some_top words tops n are has))
+  | inr absent ↦ absent
+]
+
+-- where a place is of a word, the word isn't 0 and stands in the words
+pub own_word : (words tops : List ℕ) (k word : ℕ) → AreTops words tops → word ≡ get_or words k 0 → has_number tops k ≡ true
+    → 0 < word
+own_word words tops k word are is has =
+    ltb-true 0 word (ap (nat_lt 0) is ∙ sym (are.places k) ∙ has)
+
+pub own_within : (words tops : List ℕ) (k : ℕ) → AreTops words tops → has_number tops k ≡ true → k < length words
+own_within words tops k are has = elim (cases_lt k (length words)) [
+  | inl within ↦ within
+  | inr past ↦ absurd (both_ways (has_number tops k) (are.places k ∙ ap (nat_lt 0) (get_or_past words k 0 past)) has)
+]
+
 both : (x y : Bool) → x ≡ true → y ≡ true → (x && y) ≡ true
 both x y p q = ap (λ b. b && y) p ∙ q
 
@@ -92,15 +112,9 @@ module _ (a b c d ta tb tc td : List ℕ) (aa : AreTops a ta) (bb : AreTops b tb
   pub within_words : (k : ℕ) → in_either (has_number ta) (has_number tb) (has_number tc) (has_number td) k ≡ true → (m : ℕ)
       → length a ≤ m → length c ≤ m → k < m
   within_words k h m first third = elim (or_cases (has_number ta k && has_number tb k) (has_number tc k && has_number td k) h) [
-    | inl p ↦ (let q = word_there a ta aa k (and_parts (has_number ta k) (has_number tb k) p).0 in omega (arith, q, first))
-    | inr p ↦ (let q = word_there c tc cc' k (and_parts (has_number tc k) (has_number td k) p).0 in omega (arith, q, third))
+    | inl p ↦ (let q = own_within a ta k aa (and_parts (has_number ta k) (has_number tb k) p).0 in omega (arith, q, first))
+    | inr p ↦ (let q = own_within c tc k cc' (and_parts (has_number tc k) (has_number td k) p).0 in omega (arith, q, third))
   ]
-    where
-      word_there : (words tops : List ℕ) → AreTops words tops → (k : ℕ) → has_number tops k ≡ true → k < length words
-      word_there words tops are k has = elim (cases_lt k (length words)) [
-        | inl within ↦ within
-        | inr past ↦ absurd (both_ways (has_number tops k) (are.places k ∙ ap (nat_lt 0) (get_or_past words k 0 past)) has)
-      ]
 
 -- all words are full up to the length, and so are their places
 pub filled_tops : (words tops after places : List ℕ) (len : ℕ) → AreTops words tops → length after ≡ length words

@@ -1,14 +1,14 @@
 // Words of numbers beside a set of the places of those that aren't 0, so that a walk passes over 64 words without a number at a
 // time.
 ghost use Rattle.std.specs.Prelude.{◌≡◌, ℕ, ◌+◌, ◌*◌, ◌^◌, ◌<◌, ◌≤◌, ◌==◌, nat_lt, Bool, false, length, vec_len, MatchOption, OnOk, OnErr};
-ghost use Rattle.std.specs.Prelude.{if◌then◌else◌};
+ghost use Rattle.std.specs.Prelude.{if◌then◌else◌, slice_index};
 ghost use Rattle.number_set.specs.Next.{in_either, IsNext, IsPrevious};
 ghost use Rattle.number_set.specs.Walks.{IsNextWord, IsPreviousWord};
 ghost use Rattle.number_set.specs.Words.{AreTops, has_number, is_set};
 
 use crate::bits::{WORD, highest_below, lowest_from, without_lowest};
 use crate::words;
-use crate::words::{either_at, end_of_either, fill_words, has_number, put_number};
+use crate::words::{either_at, end_of_either, fill_words, has_number, put_number, word_at};
 use std::alloc::{AllocError, Global};
 
 /// Words, and the places of those that aren't 0, as words of their own.
@@ -90,6 +90,54 @@ impl Levels {
     {
         fill_words(&mut self.words, len);
         fill_words(&mut self.tops, self.words.len());
+    }
+
+    /// The word at a place.
+    pub(crate) fn word(&self, at: usize) -> u64
+        ensures value { result ≡ slice_index self.now.words.items at }
+        ensures bits { (k : ℕ) → k < WORD → is_set result k ≡ has_number self.now.words.items (64 * at + k) }
+    {
+        word_at(&self.words, at)
+    }
+
+    /// The first place from a place on whose word isn't 0.
+    fn next_top(&self, from: usize) -> Option<usize>
+        ensures { IsNext (has_number self.now.tops.items) from result }
+    {
+        words::next_own(&self.tops, from)
+    }
+
+    /// The last place before a place whose word isn't 0.
+    fn previous_top(&self, before: usize) -> Option<usize>
+        ensures { IsPrevious (has_number self.now.tops.items) before result }
+    {
+        words::previous_own(&self.tops, before)
+    }
+
+    /// The least number from a number on.
+    pub(crate) fn next_own(&self, from: usize) -> Option<usize>
+        ensures { IsNext (has_number self.now.words.items) from result }
+    {
+        let at = from / WORD;
+        if let Some(bit) = lowest_from(self.word(at), from % WORD) {
+            return Some(WORD * at + bit);
+        }
+        let at = self.next_top(at + 1)?;
+        let (bit, _rest) = without_lowest(self.word(at));
+        Some(WORD * at + bit)
+    }
+
+    /// The greatest number below a number.
+    pub(crate) fn previous_own(&self, before: usize) -> Option<usize>
+        ensures { IsPrevious (has_number self.now.words.items) before result }
+    {
+        let at = before / WORD;
+        if let Some(bit) = highest_below(self.word(at), before % WORD) {
+            return Some(WORD * at + bit);
+        }
+        let at = self.previous_top(at)?;
+        let bit = highest_below(self.word(at), WORD)?;
+        Some(WORD * at + bit)
     }
 
     /// The word at a place of the numbers that are in both of `a` or in both of `b`.

@@ -2,7 +2,7 @@
 ghost use Rattle.std.specs.Prelude.{◌≡◌, ℕ, ◌+◌, ◌*◌, ◌^◌, ◌<◌, ◌≤◌, ◌==◌, Bool, true, false, IfSome, MatchOption, OnOk, OnErr, IsOk, max};
 ghost use Rattle.std.specs.Prelude.{if◌then◌else◌};
 ghost use Rattle.number_set.specs.Next.{in_either, IsNext, IsPrevious};
-ghost use Rattle.number_set.specs.Walks.{IsNextWord};
+ghost use Rattle.number_set.specs.Walks.{IsNextWord, IsPreviousWord};
 ghost use Rattle.number_set.specs.Words.{is_set};
 
 use crate::levels::Levels;
@@ -159,6 +159,16 @@ impl NumberSet {
         has_number(&self.levels.words, number)
     }
 
+    /// The numbers from 64 * `at` on as the bits of a word, the lowest first: a bit is set where its number is a member, and
+    /// past the length none is. Takes no memory; constant cost.
+    ///
+    /// Own.
+    pub fn word(&self, at: usize) -> u64
+        ensures { (k : ℕ) → k < 64 → is_set result k ≡ self.now.has (64 * at + k) }
+    {
+        self.levels.word(at)
+    }
+
     /// The least member from a number on, that number included, or None where there is none. It can be
     /// asked again from the number after it. Takes no memory; linear in the length that is passed over,
     /// 4,096 numbers at a time where none is a member.
@@ -169,8 +179,7 @@ impl NumberSet {
         ensures within { IfSome result (λ n. n < self.now.len) }
         ensures small { IfSome result (λ n. n + 1 < 2 ^ 64) }
     {
-        let own = &self.levels;
-        Levels::next((own, own), (own, own), from)
+        self.levels.next_own(from)
     }
 
     /// The greatest member below a number, or None where there is none. Takes no memory; linear in
@@ -181,8 +190,7 @@ impl NumberSet {
         ensures previous { IsPrevious self.now.has before result }
         ensures within { IfSome result (λ n. n < self.now.len) }
     {
-        let own = &self.levels;
-        Levels::previous((own, own), (own, own), before)
+        self.levels.previous_own(before)
     }
 
     /// The least number from a number on, that number included, that is in both sets of `a` or in
@@ -225,6 +233,32 @@ impl NumberSet {
         let (first, second) = a;
         let (third, fourth) = b;
         Levels::previous(
+            (&first.levels, &second.levels),
+            (&third.levels, &fourth.levels),
+            before,
+        )
+    }
+
+    /// The last word before a place that has a number in both sets of `a` or in both sets of `b`, with its place, or None where
+    /// no number below 64 * `before` is one. The numbers from 64 times its place on are its bits, the lowest first. The sets may
+    /// have different lengths. Takes no memory; linear in the length that is passed over, 4,096 numbers at a time where none is
+    /// a member.
+    ///
+    /// Own.
+    pub fn previous_word_in_either(
+        a: (&NumberSet, &NumberSet),
+        b: (&NumberSet, &NumberSet),
+        before: usize,
+    ) -> Option<(usize, u64)>
+        ensures { MatchOption result
+            ((n : ℕ) → n < 64 * before
+            → in_either a.entry.0.now.has a.entry.1.now.has b.entry.0.now.has b.entry.1.now.has n ≡ false)
+            (λ found. IsPreviousWord (in_either a.entry.0.now.has a.entry.1.now.has b.entry.0.now.has b.entry.1.now.has)
+            before found.0 found.1) }
+    {
+        let (first, second) = a;
+        let (third, fourth) = b;
+        Levels::previous_word(
             (&first.levels, &second.levels),
             (&third.levels, &fourth.levels),
             before,

@@ -7,8 +7,8 @@ ghost use Rattle.number_set.specs.Words.{has_number, is_set};
 use crate::bits::{WORD, bits_below, highest_below, lowest_from, with_bit};
 use std::alloc::AllocError;
 
-// The word at a place, which is 0 behind the end.
-fn word_at(words: &[u64], at: usize) -> u64
+/// The word at a place, which is 0 behind the end.
+pub(crate) fn word_at(words: &[u64], at: usize) -> u64
     ensures { result ≡ slice_index words.now at }
 {
     words.get(at).copied().unwrap_or(0)
@@ -128,6 +128,40 @@ pub(crate) fn previous_number(
     let mut place = before % WORD;
     loop {
         if let Some(bit) = highest_below(either_at(first, second, third, fourth, at), place) {
+            return Some(WORD * at + bit);
+        }
+        if at == 0 {
+            return None;
+        }
+        at -= 1;
+        place = WORD;
+    }
+}
+
+/// The least number from a number on that is in the words.
+pub(crate) fn next_own(words: &[u64], from: usize) -> Option<usize>
+    requires { length words.now ≤ 2 ^ 58 }
+    ensures { IsNext (has_number words.now) from result }
+{
+    let (mut at, mut place) = (from / WORD, from % WORD);
+    while at < words.len() {
+        if let Some(bit) = lowest_from(word_at(words, at), place) {
+            return Some(WORD * at + bit);
+        }
+        at += 1;
+        place = 0;
+    }
+    None
+}
+
+/// The greatest number below a number that is in the words.
+pub(crate) fn previous_own(words: &[u64], before: usize) -> Option<usize>
+    ensures { IsPrevious (has_number words.now) before result }
+{
+    let mut at = words.len().min(before / WORD);
+    let mut place = before % WORD;
+    loop {
+        if let Some(bit) = highest_below(word_at(words, at), place) {
             return Some(WORD * at + bit);
         }
         if at == 0 {
