@@ -87,7 +87,7 @@ named-same r w p q (suc n) h =
 abbrev pub one_if : Bool → ℕ
 one_if b = cond b 1 0
 
-length-one : (b : Bool) (x : Want) → length (cond b (x ∷ []) []) ≡ one_if b
+pub length-one : (b : Bool) (x : Want) → length (cond b (x ∷ []) []) ≡ one_if b
 length-one true x = refl
 length-one false x = refl
 
@@ -107,7 +107,7 @@ length-named_le r w n (suc more) =
     let m = length-named_more r w (n + more) in
     subst (λ k. length (rows_before r w n) ≤ length (rows_before r w k)) (sym e) (omega (arith, s, m))
 
-one_if-le : (b : Bool) → one_if b ≤ 1
+pub one_if-le : (b : Bool) → one_if b ≤ 1
 one_if-le true = omega arith
 one_if-le false = omega arith
 

@@ -14,4 +14,5 @@ pub mod Silent
 pub mod Table
 pub mod TableCode
 pub mod TableView
+pub mod WantWords
 pub mod Marking

@@ -13,6 +13,7 @@ mod standard;
 mod stream;
 mod stream_laws;
 mod table;
+mod want_word;
 
 pub use ev_types::{Addr, ConnAnswer, ReadAnswer, WriteAnswer};
 pub use log::{LogStep, TraceLog};
@@ -25,3 +26,4 @@ pub use standard::{StdSink, StdSource};
 pub use stream::{Given, Sink, Source, Taken};
 pub use stream_laws::{given_joins, taken_joins};
 pub use table::WantTable;
+pub use want_word::WantWord;

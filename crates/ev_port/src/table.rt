@@ -7,9 +7,11 @@ ghost use Rattle.ev_types.specs.Sides.{number};
 ghost use Rattle.ev_port.specs.Marking.{marks_by, after_marks};
 ghost use Rattle.ev_port.specs.Table.{side_of, row_by, rows_before, named, wants_some, is_marked, is_ready_by, marked_by, RowsStay};
 ghost use Rattle.ev_port.specs.Table.{IsNextWanted, IsPreviousWanted};
+ghost use Rattle.ev_port.specs.WantWords.{IsPreviousWordWanted};
 ghost use Rattle.number_set.specs.Next.{in_either, IsPrevious};
 
-use crate::{MarkWant, Want};
+use crate::want_word::last_word;
+use crate::{MarkWant, Want, WantWord};
 use ev_types::{NoMemory, Side, SideId};
 use number_set::NumberSet;
 use std::alloc::Global;
@@ -43,7 +45,7 @@ impl Model for WantTable {
     ghost invariant = { IsTable };
 }
 
-fn side_of(number: usize) -> SideId
+pub(crate) fn side_of(number: usize) -> SideId
     requires { number < 2 ^ 33 }
     ensures { result ≡ side_of number }
 {
@@ -367,5 +369,16 @@ impl WantTable {
     {
         let number = last_number(&self.read, &self.write, before)?;
         Some(row_of(&self.read, &self.write, number))
+    }
+
+    /// What the last 64 sides before a place want of which one wants something: those numbered from 64 times a place on, where
+    /// this is below `before`. None where no side numbered below 64 * `before` wants something. A table of so many links has no
+    /// side from the place (2 * links + 63) / 64 on. Takes no memory; linear in the sides that it passes over, 4,096 at a time.
+    ///
+    /// Own.
+    pub fn previous_word(&self, before: usize) -> Option<WantWord>
+        ensures { IsPreviousWordWanted self.now before result }
+    {
+        last_word(&self.read, &self.write, before)
     }
 }
