@@ -67,7 +67,7 @@ impl Bev {
     ///
     /// Libevent: event2/bufferevent.h, `bufferevent_socket_new`; "Bufferevents: concepts and basics".
     pub fn new(alloc: Global) -> Result<Bev, BevFault>
-        ensures answer { AnswersOr Memory result None }
+        ensures answer { fault_of result ≡ None }
         ensures bev { IfOk result (λ bev. bev ≡ new_bev) }
     {
         Ok(Bev::fresh(alloc))
@@ -304,13 +304,16 @@ impl Bev {
         self.buffer(dir).front(n)
     }
 
-    /// Copies bytes to the end of the output. Spent comes where the length would not fit a usize. Takes memory; linear in
-    /// the length.
+    /// Copies bytes to the end of the output. Spent comes where the length would not fit a usize. Takes memory only where there is
+    /// less room; linear in the length.
     ///
     /// Libevent: event2/bufferevent.h, `bufferevent_write`; "Bufferevents: concepts and basics".
     pub fn write(&mut self, bytes: &[u8]) -> Result<(), BevFault>
         ensures answer { AnswersOr Memory result (write_refusal self.old (length bytes.now)) }
+        ensures there { length bytes.now ≤ self.old.output.spare → fault_of result ≡ live_refusal self.old }
         ensures ok { OnOk result (self.new ≡ record self.old { output = more self.old.output bytes.now self.new.output.spare }) }
+        ensures used { OnOk result
+            (length bytes.now ≤ self.old.output.spare → self.new.output.spare + length bytes.now ≡ self.old.output.spare) }
         ensures err { OnErr result (self.new ≡ self.old) }
     {
         self.feed(Dir::Write, bytes)
@@ -321,7 +324,10 @@ impl Bev {
     /// Own.
     pub fn feed(&mut self, dir: Dir, bytes: &[u8]) -> Result<(), BevFault>
         ensures answer { AnswersOr Memory result (feed_refusal self.old dir (length bytes.now)) }
+        ensures there { length bytes.now ≤ (held self.old dir).spare → fault_of result ≡ live_refusal self.old }
         ensures ok { OnOk result (self.new ≡ with_held self.old dir (more (held self.old dir) bytes.now (held self.new dir).spare)) }
+        ensures used { OnOk result
+            (length bytes.now ≤ (held self.old dir).spare → (held self.new dir).spare + length bytes.now ≡ (held self.old dir).spare) }
         ensures err { OnErr result (self.new ≡ self.old) }
     {
         self.check_live()?;

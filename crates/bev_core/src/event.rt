@@ -16,3 +16,8 @@ pub const ERROR: u8 = 0x20;
 
 /// A timeout expired. Libevent: `BEV_EVENT_TIMEOUT`.
 pub const TIMEOUT: u8 = 0x40;
+
+// Each has its place, and no two have a bit in common: their sum is what they have together.
+const _: () = prove!(READING | WRITING | EOF | ERROR | TIMEOUT == 0x73);
+
+const _: () = prove!(READING + WRITING + EOF + ERROR + TIMEOUT == 0x73);

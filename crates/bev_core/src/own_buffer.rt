@@ -1,7 +1,7 @@
 // A buffer that nobody but its bufferevent reaches. So it is frozen at no end, and has no reference and no size callback: all of it is
 // its bytes.
 ghost use Rattle.std.specs.Prelude.{◌≡◌, ◌≤◌, ◌<◌, ◌+◌, ◌-◌, ◌*◌, ◌^◌, ◌++◌, ◌==◌, [], length, drop, take, min, max, None};
-ghost use Rattle.std.specs.Prelude.{if◌then◌else◌, OnOk, OnErr, IfOk};
+ghost use Rattle.std.specs.Prelude.{if◌then◌else◌, OnOk, OnErr, IfOk, IsOk};
 ghost use Rattle.byte_queue.specs.MemoryAnswers.{AnswersOr, fault_of};
 ghost use Rattle.byte_queue.specs.QueuedBytes.{most_spare};
 ghost use Rattle.bev_core.specs.BevValue.{Held, nothing};
@@ -72,12 +72,14 @@ impl OwnBuffer {
         count
     }
 
-    /// Makes room for at least n more.
+    /// Makes room for at least n more. Takes memory only where there is less.
     pub(crate) fn reserve(&mut self, n: usize) -> Result<(), NoMemory>
         ensures bytes { self.new.bytes ≡ self.old.bytes }
         ensures room { OnOk result (n ≤ self.new.spare) }
         ensures kept { self.old.spare ≤ self.new.spare }
         ensures most { self.new.spare ≤ most_spare self.old.spare n (length self.old.bytes) }
+        ensures there { n ≤ self.old.spare → IsOk result }
+        ensures still { n ≤ self.old.spare → self.new ≡ self.old }
         ensures err { OnErr result (self.new ≡ self.old) }
     {
         self.queue.reserve(n)?;
@@ -90,6 +92,8 @@ impl OwnBuffer {
         requires empty { spare.old.bytes ≡ [] }
         ensures fed { self.new ≡ more self.old bytes.now self.new.spare }
         ensures most { self.new.spare ≤ max spare.old.spare (most_spare self.old.spare 0 (length self.old.bytes)) }
+        ensures kept { length bytes.now ≤ self.old.spare → spare.new ≡ spare.old }
+        ensures used { length bytes.now ≤ self.old.spare → self.new.spare + length bytes.now ≡ self.old.spare }
         ensures empty { spare.new.bytes ≡ [] }
     {
         if self.queue.append(bytes).is_err() {
@@ -143,10 +147,12 @@ impl OwnBuffer {
         self.queue = ByteQueue::new(self.allocator());
     }
 
-    /// Appends, in room that it makes.
+    /// Appends, in the room that is there or in room that it makes.
     pub(crate) fn feed(&mut self, bytes: &[u8]) -> Result<(), BevFault>
         ensures answer { AnswersOr Memory result (length_refusal self.old (length bytes.now)) }
+        ensures there { length bytes.now ≤ self.old.spare → fault_of result ≡ None }
         ensures ok { OnOk result (self.new ≡ more self.old bytes.now self.new.spare) }
+        ensures used { length bytes.now ≤ self.old.spare → self.new.spare + length bytes.now ≡ self.old.spare }
         ensures err { OnErr result (self.new ≡ self.old) }
     {
         self.fits(bytes.len())?;
@@ -166,6 +172,7 @@ impl OwnBuffer {
         ensures err { OnErr result (self.new ≡ self.old) }
         ensures to_err { OnErr result (to.new ≡ to.old) }
         ensures exchanged { length self.old.bytes ≤ n → to.old.bytes ≡ [] → fault_of result ≡ None }
+        ensures there { GoesInto n self.old to.old → fault_of result ≡ None }
     {
         let moved = n.min(self.len());
         if self.len() > n || to.len() > 0 {
@@ -192,7 +199,8 @@ impl OwnBuffer {
 
     // Whether so many more bytes leave a length that fits a usize.
     fn fits(&self, n: usize) -> Result<(), BevFault>
-        ensures { fault_of result ≡ length_refusal self.now n }
+        ensures answer { fault_of result ≡ length_refusal self.now n }
+        ensures there { n ≤ self.now.spare → fault_of result ≡ None }
     {
         if n > usize::MAX - self.len() {
             return Err(BevFault::Spent);

@@ -1,5 +1,5 @@
 // Room for bytes that lies beside the bufferevents.
-ghost use Rattle.std.specs.Prelude.{◌≡◌, ◌≤◌, max, OnOk};
+ghost use Rattle.std.specs.Prelude.{◌≡◌, ◌≤◌, max, OnOk, IsOk};
 
 use crate::own_buffer::OwnBuffer;
 use ev_types::NoMemory;
@@ -44,6 +44,7 @@ impl SpareRoom {
         ensures room { OnOk result (n ≤ self.new) }
         ensures kept { self.old ≤ self.new }
         ensures most { self.new ≤ max self.old n }
+        ensures there { n ≤ self.old → IsOk result }
     {
         self.buffer.reserve(n)
     }

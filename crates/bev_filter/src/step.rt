@@ -1,6 +1,6 @@
 // A filter's step from one bufferevent to another in room that was made before, which is never refused. Bytes that a filter hands on as
 // they are move with their buffer where that can be; what another filter makes is made beside the buffers and pushed.
-ghost use Rattle.std.specs.Prelude.{◌≡◌, ◌+◌, ◌≤◌, ◌<◌, ◌^◌, length, OnOk, IfOk, vec_capacity};
+ghost use Rattle.std.specs.Prelude.{◌≡◌, ◌+◌, ◌≤◌, ◌<◌, ◌^◌, length, OnOk, IfOk, IsOk, vec_capacity};
 ghost use Rattle.ev_types.specs.declared.filter.FilterKind.TheVariants as kind_of;
 ghost use Rattle.stream_filters.specs.StepAnswers.{most_by_step};
 ghost use Rattle.bev_core.specs.Steps.{held, with_held};
@@ -18,7 +18,8 @@ use stream_filters::{AnyFilter, most_step};
 /// Answers how many bytes the step makes at most.
 ///
 /// Refused for want of memory, and where what it makes could not be counted in a u64 behind the `made` bytes that were made before.
-/// Takes no memory where all bytes go as they are into an empty buffer, and else for that most; linear in what the buffer holds.
+/// Takes no memory where there is room for that most, or all bytes go as they are into an empty buffer; linear in what the buffer
+/// holds.
 ///
 /// Own.
 pub fn reserve_step(
@@ -35,11 +36,13 @@ pub fn reserve_step(
     ensures beside { vec_capacity beside.old ≤ vec_capacity beside.new }
     ensures room { OnOk result (HasStepRoom kind count (length (held to.new dir).bytes) limit (held to.new dir).spare
         (vec_capacity beside.new) made) }
+    ensures there { HasStepRoom kind count (length (held to.old dir).bytes) limit (held to.old dir).spare (vec_capacity beside.old) made
+        → IsOk result }
     ensures most { IfOk result (λ most. most ≡ most_by_step kind count (length (held to.new dir).bytes) limit) }
 {
     let held = to.len(dir);
     let most = most_step(kind, count, held, limit);
-    if most as u64 >= u64::MAX - made {
+    if most as u64 > u64::MAX - made {
         return Err(NoMemory);
     }
     let hands_on = hands_on(kind);

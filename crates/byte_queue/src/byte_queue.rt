@@ -121,11 +121,13 @@ impl ByteQueue {
     }
 
     /// Appends: in the room that is there, or in a block of its own that is made for the bytes of both, with room behind them so that
-    /// appending in pieces stays linear, or with none where no more can be had. An empty queue gets no room more. Takes memory where
-    /// there is less room. After a refusal nothing has changed. Linear in the bytes, over many calls.
+    /// appending in pieces stays linear, or with none where no more can be had. An empty queue gets no room more. Takes memory only
+    /// where there is less room. After a refusal nothing has changed. Linear in the bytes, over many calls.
     pub fn append(&mut self, bytes: &[u8]) -> Result<(), AllocError>
         ensures items { OnOk result (self.new.items ≡ self.old.items ++ bytes.now) }
         ensures most { self.new.spare ≤ most_spare self.old.spare 0 (length self.old.items) }
+        ensures there { length bytes.now ≤ self.old.spare → IsOk result }
+        ensures used { length bytes.now ≤ self.old.spare → self.new.spare + length bytes.now ≡ self.old.spare }
         ensures err { OnErr result (self.new ≡ self.old) }
     {
         if bytes.len() <= self.spare() {

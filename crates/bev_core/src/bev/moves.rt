@@ -15,7 +15,8 @@ use token_bucket::Dir;
 impl Bev {
     /// Moves the first n bytes of the buffer of a direction, or all where there are fewer, to the end of another's buffer of the same
     /// direction, and answers how many. Whether either is live, its flags and its marks are not looked at. All bytes go into an empty
-    /// buffer by exchange, which takes no memory. Spent comes where the length would not fit a usize. Linear in what it copies.
+    /// buffer by exchange. Takes memory only where others find less room. Spent comes where the length would not fit a usize. Linear in
+    /// what it copies.
     ///
     /// Libevent: event2/buffer.h, `evbuffer_remove_buffer`; "Evbuffers".
     pub fn pass(&mut self, dir: Dir, to: &mut Bev, n: usize) -> Result<usize, BevFault>
@@ -25,6 +26,7 @@ impl Bev {
         ensures err { OnErr result (self.new ≡ self.old) }
         ensures to_err { OnErr result (to.new ≡ to.old) }
         ensures exchanged { length (held self.old dir).bytes ≤ n → (held to.old dir).bytes ≡ [] → fault_of result ≡ None }
+        ensures there { GoesInto n (held self.old dir) (held to.old dir) → fault_of result ≡ None }
     {
         match dir {
             Dir::Read => self.input.move_front(n, &mut to.input),
@@ -42,6 +44,7 @@ impl Bev {
         ensures err { OnErr result (self.new ≡ self.old) }
         ensures to_err { OnErr result (to.new ≡ to.old) }
         ensures exchanged { length (held self.old dir).bytes ≤ n → (held to.old (opposite dir)).bytes ≡ [] → fault_of result ≡ None }
+        ensures there { GoesInto n (held self.old dir) (held to.old (opposite dir)) → fault_of result ≡ None }
     {
         match dir {
             Dir::Read => self.input.move_front(n, &mut to.output),

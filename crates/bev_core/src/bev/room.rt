@@ -1,6 +1,6 @@
 // Room that is made in a buffer before, and bytes that come into it.
-ghost use Rattle.std.specs.Prelude.{◌≡◌, ◌≤◌, ◌+◌, length, max, OnOk, OnErr};
-ghost use Rattle.byte_queue.specs.MemoryAnswers.{AnswersOr};
+ghost use Rattle.std.specs.Prelude.{◌≡◌, ◌≤◌, ◌+◌, length, max, OnOk, OnErr, IsOk};
+ghost use Rattle.byte_queue.specs.MemoryAnswers.{AnswersOr, fault_of};
 ghost use Rattle.byte_queue.specs.QueuedBytes.{most_spare};
 ghost use Rattle.bev_core.specs.Refusals.{live_refusal};
 ghost use Rattle.bev_core.specs.Steps.{held, with_held, more, fed_reserved};
@@ -13,7 +13,8 @@ use ev_types::NoMemory;
 use token_bucket::Dir;
 
 impl Bev {
-    /// Makes room for at least n more bytes in the input. Takes memory; linear in the length and n.
+    /// Makes room for at least n more bytes in the input. Takes memory only where there is less; linear in the length and n
+    /// then.
     ///
     /// Own.
     pub fn reserve_input(&mut self, n: usize) -> Result<(), BevFault>
@@ -22,6 +23,8 @@ impl Bev {
         ensures room { OnOk result (n ≤ self.new.input.spare) }
         ensures kept { self.old.input.spare ≤ self.new.input.spare }
         ensures most { self.new.input.spare ≤ most_spare self.old.input.spare n (length self.old.input.bytes) }
+        ensures there { n ≤ self.old.input.spare → fault_of result ≡ live_refusal self.old }
+        ensures still { n ≤ self.old.input.spare → self.new ≡ self.old }
         ensures err { OnErr result (self.new ≡ self.old) }
     {
         self.check_live()?;
@@ -30,7 +33,7 @@ impl Bev {
     }
 
     /// Makes room for at least n more bytes in the buffer of a direction, the input for reading and the output for writing, whether
-    /// it is live or not. Takes memory; linear in the length and n.
+    /// it is live or not. Takes memory only where there is less; linear in the length and n then.
     ///
     /// Own.
     pub fn make_room(&mut self, dir: Dir, n: usize) -> Result<(), NoMemory>
@@ -38,6 +41,8 @@ impl Bev {
         ensures room { OnOk result (n ≤ (held self.new dir).spare) }
         ensures kept { (held self.old dir).spare ≤ (held self.new dir).spare }
         ensures most { (held self.new dir).spare ≤ most_spare (held self.old dir).spare n (length (held self.old dir).bytes) }
+        ensures there { n ≤ (held self.old dir).spare → IsOk result }
+        ensures still { n ≤ (held self.old dir).spare → self.new ≡ self.old }
         ensures err { OnErr result (self.new ≡ self.old) }
     {
         match dir {
@@ -69,6 +74,8 @@ impl Bev {
         requires { length self.old.input.bytes + length bytes.now ≤ spare.old }
         ensures fed { self.new ≡ record self.old { input = more self.old.input bytes.now self.new.input.spare } }
         ensures most { self.new.input.spare ≤ max spare.old (most_spare self.old.input.spare 0 (length self.old.input.bytes)) }
+        ensures kept { length bytes.now ≤ self.old.input.spare → spare.new ≡ spare.old }
+        ensures used { length bytes.now ≤ self.old.input.spare → self.new.input.spare + length bytes.now ≡ self.old.input.spare }
     {
         self.input.feed_or_swap(bytes, &mut spare.buffer);
     }
