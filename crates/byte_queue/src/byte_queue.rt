@@ -195,7 +195,7 @@ impl ByteQueue {
     pub fn give_up(&mut self)
         ensures { self.new ≡ given_up_room self.old }
     {
-        if self.end == self.start {
+        if self.end == self.start && !self.kept.is_empty() {
             let alloc = self.allocator();
             self.kept = Vec::new(alloc);
             self.start = 0;
