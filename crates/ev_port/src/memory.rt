@@ -172,6 +172,9 @@ impl Sink for MemSink {
         ensures most { self.new.most ≡ self.old.most }
         ensures failing { self.new.failing ≡ self.old.failing }
 
+        // Of the room that there was only the bytes that it took fill any.
+        ensures spare { self.old.spare ≤ self.new.spare + length (bytes_taken result from.now) }
+
         // What every sink says.
         ensures count { TookWithin result (length from.now) }
         ensures bytes { TookOn (Some self.old.bytes) (Some self.new.bytes) (bytes_taken result from.now) }

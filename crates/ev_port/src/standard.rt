@@ -1,6 +1,10 @@
 // A source and a sink over the toolchain's readers and writers, as standard input and output. They tell of their
 // bytes what the reader or writer tells; those of standard input and output tell nothing.
-ghost use Rattle.std.specs.Prelude.{◌≡◌, ◌<◌, ◌≤◌, length};
+ghost use Rattle.std.specs.Prelude.{◌≡◌, ◌<◌, ◌≤◌, [], length, IfSome, if◌then◌else◌};
+ghost use Rattle.ev_port.specs.Counting.{counted};
+ghost use Rattle.ev_port.specs.FaultCounts.{Counted};
+ghost use Rattle.ev_port.specs.StreamBytes.{Gave, TookOn};
+ghost use Rattle.ev_port.specs.Stream.{bytes_got, GotWithin, is_read_fault, bytes_taken, TookWithin, is_write_fault};
 
 use crate::{Given, Sink, Source, Taken};
 use std::io;
@@ -31,7 +35,18 @@ impl<R: Read> Source for StdSource<R> {
 
     ghost faults = { λ s. s.faults };
 
-    fn read(&mut self, into: &mut [u8]) -> Taken {
+    fn read(&mut self, into: &mut [u8]) -> Taken
+        requires { 0 < length into.old }
+
+        // Only a read that failed is counted, as one fault.
+        ensures faults { self.new.faults ≡ (if is_read_fault result then counted self.old.faults 1 else self.old.faults) }
+
+        // What every source says.
+        ensures count { GotWithin result (length into.new) }
+        ensures bytes { Gave (R.remaining self.old.reader) (R.remaining self.new.reader) (bytes_got result into.new) }
+        ensures ended { result ≡ Taken.Ended → IfSome (R.remaining self.old.reader) (λ bytes. bytes ≡ []) }
+        ensures cause { Counted self.old.faults self.new.faults (is_read_fault result) }
+    {
         for _try in 0..u64::MAX {
             match self.reader.read(into) {
                 Ok(0) => return Taken::Ended,
@@ -73,7 +88,17 @@ impl<W: Write> Sink for StdSink<W> {
 
     ghost faults = { λ s. s.faults };
 
-    fn write(&mut self, from: &[u8]) -> Given {
+    fn write(&mut self, from: &[u8]) -> Given
+        requires { 0 < length from.now }
+
+        // Only a write that failed is counted, as one fault.
+        ensures faults { self.new.faults ≡ (if is_write_fault result then counted self.old.faults 1 else self.old.faults) }
+
+        // What every sink says.
+        ensures count { TookWithin result (length from.now) }
+        ensures bytes { TookOn (W.contents self.old.writer) (W.contents self.new.writer) (bytes_taken result from.now) }
+        ensures cause { Counted self.old.faults self.new.faults (is_write_fault result) }
+    {
         for _try in 0..u64::MAX {
             match self.writer.write(from) {
                 Ok(0) => break,
