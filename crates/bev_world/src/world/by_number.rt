@@ -1,7 +1,7 @@
 // Calls for one who keeps track himself of what is live, and says by himself what is due. They ask for a known number, look at no
 // liveness, and make nothing due. Those that copy or move bytes have room that was made before, so that none is refused then.
 ghost use Rattle.std.specs.Prelude.{◌≡◌, ◌≢◌, ◌≤◌, ◌<◌, ◌+◌, ◌-◌, ◌^◌, [], true, false, Some, length, slice_index_or, slice_set, OnOk};
-ghost use Rattle.std.specs.Prelude.{OnErr, IfOk, IfSome, vec_capacity};
+ghost use Rattle.std.specs.Prelude.{OnErr, IfOk, IfSome, IsOk, vec_capacity};
 ghost use Rattle.stream_filters.specs.StepAnswers.{most_by_step};
 ghost use Rattle.bev_core.specs.Steps.{held, with_enabled, with_marks, with_timeouts, touched, less, ended_at, failed_at};
 ghost use Rattle.bev_filter.specs.Passing.{Crossed, stepping};
@@ -269,6 +269,9 @@ impl World {
         ensures room { OnOk result (HasStepRoom (crossing self.new dir at under).filter.kind count
             (length (held (crossing self.new dir at under).to dir).bytes) limit (held (crossing self.new dir at under).to dir).spare
             (vec_capacity beside.new) made) }
+        ensures sure { HasStepRoom (crossing self.old dir at under).filter.kind count
+            (length (held (crossing self.old dir at under).to dir).bytes) limit (held (crossing self.old dir at under).to dir).spare
+            (vec_capacity beside.old) made → IsOk result }
         ensures most { IfOk result (λ most. most
             ≡ most_by_step (crossing self.new dir at under).filter.kind count
             (length (held (crossing self.new dir at under).to dir).bytes) limit) }
@@ -298,6 +301,9 @@ impl World {
         ensures room { OnOk result (HasStepRoom (filter_of (slot_at self.old at) dir).kind count
             (length (held (bev_at self.new (target_of dir at under)) dir).bytes) limit
             (held (bev_at self.new (target_of dir at under)) dir).spare (vec_capacity beside.new) made) }
+        ensures sure { HasStepRoom (filter_of (slot_at self.old at) dir).kind count
+            (length (held (bev_at self.old (target_of dir at under)) dir).bytes) limit
+            (held (bev_at self.old (target_of dir at under)) dir).spare (vec_capacity beside.old) made → IsOk result }
         ensures most { IfOk result (λ most. most
             ≡ most_by_step (filter_of (slot_at self.old at) dir).kind count
             (length (held (bev_at self.new (target_of dir at under)) dir).bytes) limit) }

@@ -133,12 +133,13 @@ impl World {
         Ok(())
     }
 
-    /// Makes room for at least n more bytes in the input, which a `feed` of so many is sure to find. Takes memory; linear in the
-    /// length and n.
+    /// Makes room for at least n more bytes in the input, which a `feed` of so many is sure to find. Takes memory only where
+    /// there is less; linear in the length and n then.
     ///
     /// Own.
     pub fn reserve_input(&mut self, id: BevId, n: usize) -> Result<(), WorldFault>
         ensures answer { AnswersOr Memory result (live_refusal self.old id.0) }
+        ensures there { n ≤ (bev_at self.old id.0).input.spare → fault_of result ≡ live_refusal self.old id.0 }
         ensures stays { OnOk result (self.new
             ≡ with_input_room self.old id.0 (slot_at self.new id.0).room (bev_at self.new id.0).input.spare) }
         ensures room { OnOk result (n ≤ (slot_at self.new id.0).room) }

@@ -44,12 +44,15 @@ impl World {
     /// Moves out the first bytes of the input, as many as are there and fit, and answers how many. Of a half whose other half is
     /// live then as many bytes come as the pair lets go, as of `write` at the other half.
     ///
-    /// NotLive comes first, then Spent where the length of the input would not fit a usize. Takes memory where bytes come from
-    /// another half; linear in what it moves.
+    /// NotLive comes first, then Spent where the length of the input would not fit a usize. Takes memory only where bytes
+    /// come from another half for which there was less room before; linear in what it moves.
     ///
     /// Libevent: event2/bufferevent.h, `bufferevent_read`; "Bufferevents: advanced topics", paired bufferevents.
     pub fn take(&mut self, id: BevId, into: &mut [u8]) -> Result<usize, WorldFault>
         ensures answer { AnswersOr Memory result (take_refusal self.old id.0 (length into.old)) }
+        ensures there { IfSome (other_half self.old id.0)
+            (λ other. count_without self.old other id.0 (min (length into.old) (length (bev_at self.old id.0).input.bytes)) ≤
+            (bev_at self.old id.0).input.spare) → fault_of result ≡ take_refusal self.old id.0 (length into.old) }
         ensures count { IfOk result (λ n. n ≡ min (length into.old) (length (bev_at self.old id.0).input.bytes)) }
         ensures copied { IfOk result (λ n. into.new ≡ take n (bev_at self.old id.0).input.bytes ++ drop n into.old) }
         ensures ok { IfOk result (λ n. TakenFrom (other_half self.old id.0) self.old id.0 n self.new) }
@@ -90,6 +93,9 @@ impl World {
         requires other_live { is_live self.old other ≡ true }
         ensures answer { AnswersOr Memory result
             (back_refusal (Some other) self.old at (min (length into.old) (length (bev_at self.old at).input.bytes))) }
+        ensures there { count_without self.old other at (min (length into.old) (length (bev_at self.old at).input.bytes)) ≤
+            (bev_at self.old at).input.spare → fault_of result
+            ≡ back_refusal (Some other) self.old at (min (length into.old) (length (bev_at self.old at).input.bytes)) }
         ensures count { IfOk result (λ n. n ≡ min (length into.old) (length (bev_at self.old at).input.bytes)) }
         ensures copied { IfOk result (λ n. into.new ≡ take n (bev_at self.old at).input.bytes ++ drop n into.old) }
         ensures ok { IfOk result (λ n. TakenFrom (Some other) self.old at n self.new) }
@@ -146,7 +152,7 @@ impl World {
 
     // A new bufferevent, which stands beside the world.
     pub(super) fn blank(&self) -> Result<Bev, WorldFault>
-        ensures answer { AnswersOr Memory result None }
+        ensures answer { fault_of result ≡ None }
         ensures bev { IfOk result (λ bev. bev ≡ new_bev) }
     {
         Ok(Bev::new(self.alloc)?)
@@ -157,6 +163,7 @@ impl World {
         requires there { at < length self.old.slots }
         requires live { is_live self.old at ≡ true }
         ensures answer { AnswersOr Memory result None }
+        ensures sure { n ≤ (bev_at self.old at).input.spare → fault_of result ≡ None }
         ensures stays { self.new ≡ with_spare self.old at (bev_at self.new at).input.spare }
         ensures room { OnOk result (n ≤ (bev_at self.new at).input.spare) }
         ensures kept { (bev_at self.old at).input.spare ≤ (bev_at self.new at).input.spare }

@@ -82,3 +82,16 @@ returns-clause-most c =
     (length (held (crossing new c.args.dir c.args.at c.args.under).to c.args.dir).bytes) c.args.limit)) (sym kind)
     (subst (λ (b : BevValue). IfOk c.reserve_target.result (λ most. most ≡ most_by_step (filter_of (slot_at w c.args.at) c.args.dir).kind
     c.args.count (length (held b c.args.dir).bytes) c.args.limit)) (sym t) c.reserve_target.ensures.most)
+
+pub returns-clause-sure : goal.returns-clause-sure
+returns-clause-sure c there =
+    let w = c.args.self.now in
+    let t = to-target w c.args.dir c.args.at c.args.under in
+    let kind : (crossing w c.args.dir c.args.at c.args.under).filter.kind ≡ (filter_of (slot_at w c.args.at) c.args.dir).kind =
+    ap (λ (x : Running). x.kind) (filter-there w c.args.dir c.args.at c.args.under) in
+    c.reserve_target.ensures.sure
+    (subst (λ (k : FilterKind). HasStepRoom k c.args.count
+    (length (held (bev_at w (target_of c.args.dir c.args.at c.args.under)) c.args.dir).bytes) c.args.limit
+    (held (bev_at w (target_of c.args.dir c.args.at c.args.under)) c.args.dir).spare (vec_capacity c.args.beside.now) c.args.made) kind
+    (subst (λ (b : BevValue). HasStepRoom (crossing w c.args.dir c.args.at c.args.under).filter.kind c.args.count
+    (length (held b c.args.dir).bytes) c.args.limit (held b c.args.dir).spare (vec_capacity c.args.beside.now) c.args.made) t there))
