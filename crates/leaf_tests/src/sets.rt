@@ -30,10 +30,16 @@ fn previous_in(lists: [&[bool]; 4], before: usize) -> Option<usize> {
         .find(|number| is_in_either(lists, *number))
 }
 
+/// Whether a bit of a word is set.
+fn has_bit(word: u64, bit: usize) -> bool {
+    (word >> (bit % 64)) & 1 == 1
+}
+
 /// Whether the set answers as the list does.
 fn answers_as(set: &NumberSet, list: &[bool]) -> bool {
     for number in 0..ASKED {
         if set.contains(number) != is_in(list, number)
+            || has_bit(set.word(number / 64), number % 64) != is_in(list, number)
             || set.next(number) != next_in([list, list, list, list], number)
             || set.previous(number) != previous_in([list, list, list, list], number)
         {
@@ -174,6 +180,21 @@ fn first_wrong_find(sets: [&NumberSet; 4], lists: [&[bool]; 4]) -> Option<usize>
     None
 }
 
+/// The first place below which another word is found than in lists.
+fn first_wrong_word(sets: [&NumberSet; 4], lists: [&[bool]; 4]) -> Option<usize> {
+    let [first, second, third, fourth] = sets;
+    (0..=ASKED / 64).find(|before| {
+        match NumberSet::previous_word_in_either((first, second), (third, fourth), *before) {
+            Some((at, word)) => {
+                previous_in(lists, 64 * *before).map(|number| number / 64) != Some(at)
+                    || (0..64usize).any(|bit| has_bit(word, bit)
+                        != is_in_either(lists, 64 * at + bit))
+            }
+            None => previous_in(lists, 64 * *before).is_some(),
+        }
+    })
+}
+
 /// Fills four sets, of different lengths.
 fn fill_four(
     first: &mut Both,
@@ -187,8 +208,8 @@ fn fill_four(
     fill(fourth, 250, 5)
 }
 
-/// Where a walk over four sets goes wrong, and where a search does.
-fn wrong_together(first: &Both, second: &Both, third: &Both, fourth: &Both) -> [Option<usize>; 2] {
+/// Where a walk over four sets goes wrong, where a search does, and where one for words does.
+fn wrong_together(first: &Both, second: &Both, third: &Both, fourth: &Both) -> [Option<usize>; 3] {
     let sets = [&first.set, &second.set, &third.set, &fourth.set];
     let lists = [
         first.list.as_slice(),
@@ -200,6 +221,7 @@ fn wrong_together(first: &Both, second: &Both, third: &Both, fourth: &Both) -> [
     [
         first_wrong_step(&mut walk, lists),
         first_wrong_find(sets, lists),
+        first_wrong_word(sets, lists),
     ]
 }
 
@@ -215,7 +237,7 @@ fn sets_of_different_lengths_are_looked_through_together(rt: HostRuntime) {
     drop(third);
     drop(second);
     drop(first);
-    assert_eq!(rt; (filled, wrong), (Ok(()), [None, None]));
+    assert_eq!(rt; (filled, wrong), (Ok(()), [None, None, None]));
 }
 
 /// Members of a long set, each far behind the one before it or right behind it.

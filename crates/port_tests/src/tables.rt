@@ -157,3 +157,37 @@ fn a_table_names_and_marks_the_wants_of_a_plain_list(rt: HostRuntime) -> Result<
     assert_eq!(rt; names_and_marks(rt.alloc())?, [true; 4]);
     Ok(())
 }
+
+/// The wants of a table by its words, from the last on downwards.
+fn down_by_words(alloc: Global, table: &WantTable) -> Result<Vec<Want>, Fail> {
+    let mut wants = Vec::new(alloc);
+    let mut before = (2 * table.links() as usize + 63) / 64;
+    for _ in 0..LINKS {
+        let Some(word) = table.previous_word(before) else {
+            break;
+        };
+        for bit in (0..64usize).rev() {
+            let row = word.row(bit);
+            if row.read || row.write {
+                wants.push(row)?;
+            }
+        }
+        before = word.at;
+    }
+    Ok(wants)
+}
+
+fn words_have_each_want(alloc: Global) -> Result<bool, Fail> {
+    let mut owed = list(alloc, Listed::Wanted, &HALVES)?;
+    owed.reverse();
+    let mut table = WantTable::new(alloc);
+    fill(&mut table, &HALVES)?;
+    let wants = down_by_words(alloc, &table)?;
+    Ok(wants.as_slice() == owed.as_slice())
+}
+
+#[test]
+fn a_table_gives_its_wants_by_words(rt: HostRuntime) -> Result<(), Fail> {
+    assert!(rt; words_have_each_want(rt.alloc())?);
+    Ok(())
+}
