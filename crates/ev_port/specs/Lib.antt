@@ -1,6 +1,7 @@
 pub mod FaultCounts
 pub mod StreamBytes
 pub mod Stream
+pub mod Standard
 pub mod EndSteps
 pub mod Faults
 pub mod Calls

@@ -1,10 +1,12 @@
 // A source and a sink over the toolchain's readers and writers, as standard input and output. They tell of their
 // bytes what the reader or writer tells; those of standard input and output tell nothing.
 ghost use Rattle.std.specs.Prelude.{◌≡◌, ◌<◌, ◌≤◌, [], length, IfSome, if◌then◌else◌};
+ghost use Rattle.std.specs.IoError.{error_kind};
 ghost use Rattle.ev_port.specs.Counting.{counted};
 ghost use Rattle.ev_port.specs.FaultCounts.{Counted};
 ghost use Rattle.ev_port.specs.StreamBytes.{Gave, TookOn};
 ghost use Rattle.ev_port.specs.Stream.{bytes_got, GotWithin, is_read_fault, bytes_taken, TookWithin, is_write_fault};
+ghost use Rattle.ev_port.specs.Standard.{TellsRead, TellsWrite};
 
 use crate::{Given, Sink, Source, Taken};
 use std::io;
@@ -48,14 +50,10 @@ impl<R: Read> Source for StdSource<R> {
         ensures cause { Counted self.old.faults self.new.faults (is_read_fault result) }
     {
         for _try in 0..u64::MAX {
-            match self.reader.read(into) {
-                Ok(0) => return Taken::Ended,
-                Ok(count) => return Taken::Got(count),
-                Err(error) => {
-                    if error.kind() != ErrorKind::Interrupted {
-                        break;
-                    }
-                }
+            match taken_of(self.reader.read(into)) {
+                Some(Taken::Failed) => break,
+                Some(taken) => return taken,
+                None => {}
             }
         }
         self.faults = self.faults.saturating_add(1);
@@ -100,17 +98,37 @@ impl<W: Write> Sink for StdSink<W> {
         ensures cause { Counted self.old.faults self.new.faults (is_write_fault result) }
     {
         for _try in 0..u64::MAX {
-            match self.writer.write(from) {
-                Ok(0) => break,
-                Ok(count) => return Given::Took(count),
-                Err(error) => {
-                    if error.kind() != ErrorKind::Interrupted {
-                        break;
-                    }
-                }
+            match given_of(self.writer.write(from)) {
+                Some(Given::Failed) => break,
+                Some(given) => return given,
+                None => {}
             }
         }
         self.faults = self.faults.saturating_add(1);
         Given::Failed
+    }
+}
+
+// What a reader's answer tells. None, where the read was interrupted.
+fn taken_of(answer: io::Result<usize>) -> Option<Taken>
+    ensures { TellsRead error_kind ErrorKind.Interrupted answer result }
+{
+    match answer {
+        Ok(0) => Some(Taken::Ended),
+        Ok(count) => Some(Taken::Got(count)),
+        Err(error) if error.kind() == ErrorKind::Interrupted => None,
+        Err(_) => Some(Taken::Failed),
+    }
+}
+
+// What a writer's answer tells. None, where the write was interrupted.
+fn given_of(answer: io::Result<usize>) -> Option<Given>
+    ensures { TellsWrite error_kind ErrorKind.Interrupted answer result }
+{
+    match answer {
+        Ok(0) => Some(Given::Failed),
+        Ok(count) => Some(Given::Took(count)),
+        Err(error) if error.kind() == ErrorKind::Interrupted => None,
+        Err(_) => Some(Given::Failed),
     }
 }
