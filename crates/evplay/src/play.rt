@@ -23,6 +23,12 @@ use std::alloc::Global;
 /// those after the program's name. In a script of links the first hook is for side In of link 0, the second for side Out of it, and so on;
 /// each whose side has `on` lines gets those, and the others are let go. None of them was called yet.
 ///
+/// What it did its status says: usage, or else out of memory, for words that are not one mode word; a bad script by its first bad line;
+/// and else the whole text that the script comes to, or the part of it before the sink failed. The words are looked at before all else.
+/// What is not written wholly or in part is not written at all. A fault is answered only where its count rose in this call; with every
+/// other answer the counts are as they were. Too long is a text of which 2^24 + 1 bytes were read; with every other answer no more than
+/// 2^24 were.
+///
 /// Own.
 pub fn play<S: Source, K: Sink>(
     alloc: Global,
@@ -32,25 +38,16 @@ pub fn play<S: Source, K: Sink>(
     hooks: Vec<Box<dyn Hook>>,
 ) -> Status
     requires fresh { All (IsFresh (telling (λ h. heard h) (λ h. asked h) (λ h. planned h))) hooks.items }
-
-    // What the call did, by its status: usage, or else out of memory, for words that are not one mode word, a bad script by
-    // its first bad line, and else the whole text that the script comes to, or the part of it before the sink failed.
     ensures did { DidWith (mode_of (map string_bytes words.now))
         (handed_in (telling (λ h. heard h) (λ h. asked h) (λ h. planned h)) hooks.items) result (S.left source.old)
         (S.left source.new) (K.taken sink.old) (K.taken sink.new) }
-
-    // The words are looked at before all else. What is not written wholly or in part is not written at all.
     ensures unread { result ≡ Status.Usage → source.new ≡ source.old }
     ensures reads_nothing { ReadsNothing (mode_of (map string_bytes words.now)) → source.new ≡ source.old }
     ensures unwritten { IsUnwritten result → sink.new ≡ sink.old }
-
-    // A fault is answered only where its count rose in this call. With every other answer the counts are as they were.
     ensures read_fault { result ≡ Status.ReadFault → Rose (S.faults source.old) (S.faults source.new) }
     ensures read_calm { result ≢ Status.ReadFault → S.faults source.new ≡ S.faults source.old }
     ensures write_fault { result ≡ Status.WriteFault → Rose (K.faults sink.old) (K.faults sink.new) }
     ensures write_calm { result ≢ Status.WriteFault → K.faults sink.new ≡ K.faults sink.old }
-
-    // Too long is a text of which 2^24 + 1 bytes were read. With every other answer no more than 2^24 were.
     ensures too_long { result ≡ Status.TooLong → GaveCount (S.left source.old) (S.left source.new) (2 ^ 24 + 1) }
     ensures not_too_long { result ≢ Status.TooLong → GaveAtMost (S.left source.old) (S.left source.new) (2 ^ 24) }
 {
