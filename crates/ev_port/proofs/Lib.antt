@@ -4,5 +4,6 @@ pub mod NamedLemmas
 pub mod MarkLemmas
 pub mod TableViewLemmas
 pub mod WantWordLemmas
+pub mod WantCountLemmas
 pub mod PutLemmas
 pub mod Walks

@@ -44,7 +44,7 @@ side_of-number e = side_of-half e.link e.side
 
 -- One side more
 
-one : (x : Want) (b : Bool) → wants_some x ≡ b → filter wants_some (x ∷ []) ≡ cond b (x ∷ []) []
+pub one : (x : Want) (b : Bool) → wants_some x ≡ b → filter wants_some (x ∷ []) ≡ cond b (x ∷ []) []
 one x b h = ap (λ q. cond q (x ∷ []) []) h
 
 pub named-none : (r w : ℕ → Bool) (n : ℕ) → wants_some (row_by r w n) ≡ false → rows_before r w (n + 1) ≡ rows_before r w n

@@ -1,7 +1,7 @@
 -- The wants of 64 sides at a time, beside the wants by the numbers of their sides.
 use Rattle.std.proofs.Common.{◌≡◌, ◌∙◌, ℕ, zero, suc, ◌+◌, ◌*◌, ◌^◌, ◌<◌, ◌≤◌, length}
 use Rattle.std.proofs.Common.{Bool, true, false, [], ◌∷◌, ◌++◌}
-use Rattle.std.proofs.Common.{Option, Some, None, sym, ap, subst, arith, inl, inr, append-nil, append_assoc, length-append}
+use Rattle.std.proofs.Common.{Option, Some, None, add-one, refl, sym, ap, subst, arith, inl, inr, append-nil, append_assoc, length-append}
 use Rattle.std.specs.Prelude.{filter}
 use Rattle.std.proofs.lemmas.Bool.{cases_Bool, cases_eq, cases_lt, or_from}
 use Rattle.number_set.specs.Next.{in_either}
@@ -15,7 +15,7 @@ use Rattle.ev_port.specs.TableView.{table_of, IsTable}
 use Rattle.ev_port.specs.WantWords.{word_row, word_rows_before, word_rows, LastWord, IsLastWord, PreviousWantWord}
 use Rattle.ev_port.specs.WantWords.{IsPreviousWordWanted}
 use Rattle.ev_port.proofs.MarkLemmas.{either-same}
-use Rattle.ev_port.proofs.NamedLemmas.{one_if, one_if-le, length-one, named-skip}
+use Rattle.ev_port.proofs.NamedLemmas.{one, one_if, one_if-le, length-one, named-skip}
 use Rattle.ev_port.proofs.TableViewLemmas.{reads-shown, writes-shown}
 
 -- sides past the last add nothing
@@ -39,6 +39,16 @@ length-word_below x (suc k) =
     let o = one_if-le (wants_some (word_row x k)) in
     omega (arith, s, m, o)
 
+pub length-word_le : (x : WantWord) (k more : ℕ) → length (word_rows_before x k) ≤ length (word_rows_before x (k + more))
+length-word_le x k zero =
+    let e : k + 0 ≡ k = omega arith in
+    subst (λ n. length (word_rows_before x k) ≤ length (word_rows_before x n)) (sym e) (omega arith)
+length-word_le x k (suc more) =
+    let e : k + suc more ≡ suc (k + more) = omega arith in
+    let s = length-word_le x k more in
+    let m = length-word_more x (k + more) in
+    subst (λ n. length (word_rows_before x k) ≤ length (word_rows_before x n)) (sym e) (omega (arith, s, m))
+
 -- one side that wants something is a want
 pub word-some : (x : WantWord) (j k : ℕ) → j < k → wants_some (word_row x j) ≡ true → 0 < length (word_rows_before x k)
 word-some x j zero l h = absurd (omega (arith, l))
@@ -52,6 +62,23 @@ word-some x j (suc k) l h = elim (cases_eq j k) [
       let s = word-some x j k (omega (arith, l, e)) h in
       omega (arith, m, s))
 ]
+
+-- one side more
+pub word-none : (x : WantWord) (k : ℕ) → wants_some (word_row x k) ≡ false → word_rows_before x (k + 1) ≡ word_rows_before x k
+word-none x k h =
+    ap (word_rows_before x) (add-one k)
+    ∙ ap (λ ws. word_rows_before x k ++ ws) (one (word_row x k) false h)
+    ∙ append-nil (word_rows_before x k)
+
+pub word-one : (x : WantWord) (k : ℕ) → wants_some (word_row x k) ≡ true
+    → word_rows_before x (k + 1) ≡ word_rows_before x k ++ word_row x k ∷ []
+word-one x k h =
+    ap (word_rows_before x) (add-one k) ∙ ap (λ ws. word_rows_before x k ++ ws) (one (word_row x k) true h)
+
+-- all sides of a word are its first 64
+pub word_rows-all : (x : WantWord) → word_rows_before x 64 ≡ word_rows x
+unfolding word_rows
+word_rows-all x = refl
 
 -- at most 64
 pub length-word_rows : (x : WantWord) → length (word_rows x) ≤ 64

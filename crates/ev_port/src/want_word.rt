@@ -1,6 +1,6 @@
 // What 64 sides want, as the bits of two words. Where the sides' wants are kept is left to the table.
-ghost use Rattle.std.specs.Prelude.{◌≡◌, ◌<◌, ◌^◌};
-ghost use Rattle.ev_port.specs.WantWords.{word_row, IsLastWord};
+ghost use Rattle.std.specs.Prelude.{◌≡◌, ◌<◌, ◌^◌, length};
+ghost use Rattle.ev_port.specs.WantWords.{word_row, word_rows, IsLastWord};
 
 use crate::Want;
 use crate::table::side_of;
@@ -20,6 +20,15 @@ pub struct WantWord {
 }
 
 impl WantWord {
+    /// How many of its sides want something. Takes no memory; constant cost.
+    ///
+    /// Own.
+    pub fn count(&self) -> usize
+        ensures { result ≡ length (word_rows self.now) }
+    {
+        (self.read | self.write).count_ones() as usize
+    }
+
     /// What one of its sides wants, without marks. Takes no memory; constant cost.
     ///
     /// Own.
