@@ -1,18 +1,20 @@
 -- The last entries behind the wants of a table, of which only the last are looked at where they are many.
-use Rattle.std.proofs.Common.{◌≡◌, ◌∙◌, ℕ, ◌+◌, ◌-◌, ◌*◌, ◌<◌, ◌≤◌, List, [], ◌∷◌, ◌++◌, length, drop, set, length-set, refl, sym, ap}
-use Rattle.std.proofs.Common.{arith}
+use Rattle.std.proofs.Common.{◌≡◌, ◌∙◌, ℕ, ◌+◌, ◌-◌, ◌*◌, ◌/◌, ◌^◌, ◌<◌, ◌≤◌, List, [], ◌∷◌, ◌++◌, length, refl, sym, ap, subst, arith}
 use Rattle.std.proofs.Common.{append-nil, append_assoc, length-append}
 use Rattle.std.specs.Prelude.{map, min}
-use Rattle.std.proofs.Math.Seq.{drop-length}
-use Rattle.std.proofs.lemmas.List.{drop-set, length-map, map-append, map_push}
+use Rattle.std.proofs.lemmas.List.{length-map, map-append, map_push}
+use Rattle.std.proofs.lemmas.List.Elements.{All-nil, All-push}
 use Rattle.ev_types.specs.declared.entry.Entry.{Entry}
 use Rattle.ev_types.specs.Sides.{number}
 use Rattle.ev_port.specs.declared.port.Want.{Want}
-use Rattle.ev_port.specs.Table.{WantsValue, named_before, named, NextWant, PreviousWant}
-use Rattle.evrelay.specs.RingWants.{keep_last, want_entry}
-use Rattle.evrelay.proofs.KeepLastLemmas.{keep_last-whole, keep_last-keep_last, keep_last-end}
+use Rattle.ev_port.specs.declared.want_word.WantWord.{WantWord}
+use Rattle.ev_port.specs.Table.{WantsValue, named_before, named, NextWant}
+use Rattle.ev_port.specs.WantWords.{word_rows, PreviousWantWord}
+use Rattle.ev_port.proofs.WantWordLemmas.{length-word_rows, named-past}
+use Rattle.evrelay.specs.RingWants.{AreOfSides, keep_last, kept_last, want_entry, wants_of, word_entries}
+use Rattle.evrelay.proofs.KeepLastLemmas.{keep_last-keep_last, keep_last-end}
 
--- One entry more
+-- One entry more, behind the words and the older half
 
 -- the newer half had room
 pub pushed-behind : (older newer : List Entry) (e : Entry)
@@ -67,70 +69,71 @@ put-all t from old now s end =
     let here : min from (2 * t.links) ≡ from = omega (arith, within) in
     s.items ∙ ap (kept old) (sym (end ∙ ap (named_before t) here))
 
--- The last wants of a table that has many, from the last one down
+-- The words of the last wants of a table that has many, from the last one down
 
--- the wants from this number of a side on stand at the end, and they fill all places but so many
-pub record FilledSoFar (t : WantsValue) (before at : ℕ) (items : List Entry) : Type 0 where
-  pub rest : List Want
-  pub within : before ≤ 2 * t.links
-  pub split : named t ≡ named_before t before ++ rest
-  pub many : length rest + at ≡ 64
-  pub long : length items ≡ 64
-  pub stand : drop at items ≡ map want_entry rest
+-- a word more stands before the others
+pub wants-push : (words : List WantWord) (w : WantWord) → wants_of (words ++ w ∷ []) ≡ word_rows w ++ wants_of words
+wants-push [] w = sym (append-nil (word_rows w))
+wants-push (v ∷ words) w = ap (λ ws. ws ++ word_rows v) (wants-push words w) ∙ append_assoc (word_rows w) (wants_of words) (word_rows v)
 
-pub fill-begin : (t : WantsValue) (items : List Entry) → length items ≡ 64 → FilledSoFar t (2 * t.links) 64 items
-fill-begin t items long = record {
-  rest = [];
-  within = omega arith;
-  split = sym (append-nil (named t));
-  many = refl;
-  long = long;
-  stand = ap (λ n. drop n items) (sym long) ∙ drop-length items;
-}
+-- the wants of the sides from this place on are those of the words so far
+pub record TakenSoFar (t : WantsValue) (before count : ℕ) (words : List WantWord) : Type 0 where
+  pub split : named t ≡ named_before t (64 * before) ++ wants_of words
+  pub counted : count ≡ length (wants_of words)
+  pub short : length words ≤ count
+  pub few : count < 128
+  pub sides : AreOfSides words
 
-pub fill-more : (t : WantsValue) (before at next : ℕ) (items : List Entry) (w : Want) (e : Entry) (number_is : ℕ)
-    → FilledSoFar t before at items
-    → 0 < at → next ≡ at - 1 → PreviousWant t before w → number_is ≡ number w.side → e ≡ want_entry w
-    → FilledSoFar t number_is next (set items next e)
-fill-more t before at next items w e n s some is previous here one =
-    let within = previous.within in
-    let many = s.many in
-    let long = s.long in
-    let place : next < length items = omega (arith, is, some, many, long) in
-    let behind : next + 1 ≡ at = omega (arith, is, some) in
+pub take-begin : (t : WantsValue) (before : ℕ) (words : List WantWord) → words ≡ [] → before ≡ 2 * t.links / 64 + 1
+    → TakenSoFar t before 0 words
+take-begin t before words none place = subst (TakenSoFar t before 0) (sym none) (record {
+  split = sym (append-nil (named_before t (64 * before)) ∙ named-past t (64 * before) (omega (arith, place)));
+  counted = refl;
+  short = omega arith;
+  few = omega arith;
+  sides = All-nil (λ w. w.at < 2 ^ 27);
+})
+
+pub take-more : (t : WantsValue) (before count next : ℕ) (words : List WantWord) (w : WantWord) → TakenSoFar t before count words
+    → PreviousWantWord t before w → count < 64 → next ≡ count + length (word_rows w) → TakenSoFar t w.at next (words ++ w ∷ [])
+take-more t before count next words w s previous fewer is =
+    let many = ap length (wants-push words w) ∙ length-append (word_rows w) (wants_of words) in
+    let counted = s.counted in
+    let short = s.short in
+    let some = previous.some in
+    let most = length-word_rows w in
     record {
-      rest = w ∷ s.rest;
-      within = omega (arith, here, within);
-      split = s.split ∙ ap (λ ws. ws ++ s.rest) (previous.named ∙ ap (λ m. named_before t m ++ w ∷ []) (sym here))
-          ∙ append_assoc (named_before t n) (w ∷ []) s.rest;
-      many = omega (arith, many, is, some);
-      long = length-set items next e ∙ long;
-      stand = drop-set items next e place ∙ (λ i. one i ∷ (ap (λ m. drop m items) behind ∙ s.stand) i);
+      split = s.split ∙ ap (λ ws. ws ++ wants_of words) previous.named
+          ∙ append_assoc (named_before t (64 * w.at)) (word_rows w) (wants_of words)
+          ∙ ap (λ ws. named_before t (64 * w.at) ++ ws) (sym (wants-push words w));
+      counted = omega (arith, is, many, counted);
+      short = omega (arith, is, short, some, length-append words (w ∷ []));
+      few = omega (arith, is, fewer, most);
+      sides = All-push (λ w. w.at < 2 ^ 27) words w s.sides previous.small;
     }
 
-pub fill-none : (t : WantsValue) (before at : ℕ) (items : List Entry) → FilledSoFar t before at items → 0 < at → 64 ≤ length (named t)
-    → named_before t before ≡ [] → ⊥
-fill-none t before at items s some many none =
-    let e = ap length (s.split ∙ ap (λ ws. ws ++ s.rest) none) in
-    let most = s.many in
-    omega (arith, e, most, some, many)
+pub take-none : (t : WantsValue) (before count : ℕ) (words : List WantWord) → TakenSoFar t before count words → count < 64
+    → 64 ≤ length (named t) → named_before t (64 * before) ≡ [] → ⊥
+take-none t before count words s fewer many none =
+    let e = ap length (s.split ∙ ap (λ ws. ws ++ wants_of words) none) in
+    let counted = s.counted in
+    omega (arith, e, fewer, many, counted)
 
-pub fill-all : (t : WantsValue) (before at : ℕ) (items : List Entry) → FilledSoFar t before at items → at ≡ 0
-    → items ≡ keep_last 64 (map want_entry (named t))
-fill-all t before at items s none =
-    let es = map want_entry s.rest in
-    let most = s.many in
-    let long : length es ≡ 64 = omega (arith, length-map s.rest want_entry, most, none) in
-    let here : items ≡ es = ap (λ n. drop n items) (sym none) ∙ s.stand in
-    here ∙ sym (ap (λ ws. keep_last 64 (map want_entry ws)) s.split
-    ∙ ap (keep_last 64) (map-append want_entry (named_before t before) s.rest)
-    ∙ keep_last-end 64 (map want_entry (named_before t before)) es (omega (arith, long))
-    ∙ keep_last-whole 64 es (omega (arith, long)))
+pub take-all : (t : WantsValue) (before count : ℕ) (words : List WantWord) → TakenSoFar t before count words → 64 ≤ count
+    → keep_last 64 (word_entries words) ≡ keep_last 64 (map want_entry (named t))
+take-all t before count words s enough =
+    let counted = s.counted in
+    sym (ap (λ ws. keep_last 64 (map want_entry ws)) s.split
+    ∙ ap (keep_last 64) (map-append want_entry (named_before t (64 * before)) (wants_of words))
+    ∙ keep_last-end 64 (map want_entry (named_before t (64 * before))) (word_entries words)
+    (omega (arith, enough, counted, length-map (wants_of words) want_entry)))
 
 -- where a table has many wants, they alone are kept
-pub many-kept : (older old : List Entry) (t : WantsValue) → older ≡ keep_last 64 (map want_entry (named t)) → 64 ≤ length (named t)
-    → keep_last 64 (older ++ []) ≡ kept old (named t)
-many-kept older old t is many =
+pub many-kept : (words : List WantWord) (older newer old : List Entry) (t : WantsValue) → older ≡ [] → newer ≡ []
+    → keep_last 64 (word_entries words) ≡ keep_last 64 (map want_entry (named t)) → 64 ≤ length (named t)
+    → kept_last words older newer ≡ kept old (named t)
+many-kept words older newer old t none no_more is many =
     let es = map want_entry (named t) in
-    ap (λ l. keep_last 64 (l ++ [])) is ∙ keep_last-keep_last 64 es [] ∙ ap (keep_last 64) (append-nil es)
+    (λ i. keep_last 64 ((word_entries words ++ none i) ++ no_more i))
+    ∙ ap (keep_last 64) (append-nil (word_entries words ++ []) ∙ append-nil (word_entries words)) ∙ is
     ∙ sym (keep_last-end 64 old es (omega (arith, many, length-map (named t) want_entry)))

@@ -1,9 +1,11 @@
 -- What the ring keeps of a trace.
-use Rattle.std.specs.Prelude.{ℕ, ◌-◌, List, ◌++◌, drop, length, map}
+use Rattle.std.specs.Prelude.{ℕ, ◌-◌, ◌^◌, ◌<◌, List, [], ◌∷◌, ◌++◌, All, drop, length, map}
 use Rattle.ev_types.specs.Trace.{Trace}
 use Rattle.ev_types.specs.declared.entry.Entry.{Entry}
 use Rattle.ev_types.specs.declared.entry.Entry.TheVariants as entry
 use Rattle.ev_port.specs.declared.port.Want.{Want}
+use Rattle.ev_port.specs.declared.want_word.WantWord.{WantWord}
+use Rattle.ev_port.specs.WantWords.{word_rows}
 
 -- the last n of some items, or all, where they are no more
 abbrev pub keep_last : {X : Type 0} → ℕ → List X → List X
@@ -19,6 +21,18 @@ last_entries t = keep_last 64 (entries_of t)
 abbrev pub want_entry : Want → Entry
 want_entry w = entry.Want w.side w.read w.write
 
--- the last 64 of the entries in two halves
-abbrev pub kept_last : List Entry → List Entry → List Entry
-kept_last older newer = keep_last 64 (older ++ newer)
+-- the wants of some words, of which each stands behind those that follow it
+abbrev pub wants_of : List WantWord → List Want
+wants_of [] = []
+wants_of (w ∷ ws) = wants_of ws ++ word_rows w
+
+abbrev pub word_entries : List WantWord → List Entry
+word_entries words = map want_entry (wants_of words)
+
+-- the sides of the words have numbers below 2 ^ 33
+abbrev pub AreOfSides : List WantWord → Type 0
+AreOfSides words = All (λ w. w.at < 2 ^ 27) words
+
+-- the last 64 of the entries of words and of those in two halves behind them
+abbrev pub kept_last : List WantWord → List Entry → List Entry → List Entry
+kept_last words older newer = keep_last 64 ((word_entries words ++ older) ++ newer)

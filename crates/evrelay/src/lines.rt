@@ -20,7 +20,7 @@ pub(crate) fn put_lines(text: &mut Vec<u8>, entries: &[Entry])
 }
 
 /// Appends the line of an entry, with the number of its bytes.
-fn put_counted(text: &mut Vec<u8>, entry: Entry)
+pub(crate) fn put_counted(text: &mut Vec<u8>, entry: Entry)
     requires { HasRoom text.old (room_of 1 0) }
     ensures { GrewBy (counted_line entry) (room_of 1 0) text.old text.new }
 {

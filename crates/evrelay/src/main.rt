@@ -9,6 +9,7 @@ mod program;
 mod ring;
 #[cfg(test)]
 mod tests;
+mod want_lines;
 
 use command_words::program_words;
 use ev_port::StdSink;

@@ -23,7 +23,7 @@ pub struct Ring {
     pub(crate) text: Vec<u8>,
     told: TraceLog,
     ghost room: { room_of 64 0 ≤ vec_capacity text },
-    ghost kept: { kept_last entries.older.items entries.newer.items ≡ last_entries told.trace },
+    ghost kept: { kept_last entries.words.items entries.older.items entries.newer.items ≡ last_entries told.trace },
 }
 
 impl Ring {

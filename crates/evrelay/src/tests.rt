@@ -1,7 +1,7 @@
 // What no clause says: that runs over a port of a script come to their reports, and what stands on standard error.
 use crate::program::relay_program;
 use crate::ring::Ring;
-use ev_port::{MemSink, Port, Scribe};
+use ev_port::{MemSink, Port, Scribe, WantTable};
 use ev_types::{Entry, ReadAnswer, Side, SideId};
 use script_port::ScriptPort;
 use script_text::read_script;
@@ -145,5 +145,43 @@ fn keeps_64(alloc: Global) -> Result<[bool; 2], Fail> {
 #[test]
 fn the_ring_keeps_the_last_64_entries(rt: HostRuntime) -> Result<(), Fail> {
     assert_eq!(rt; keeps_64(rt.alloc())?, [true; 2]);
+    Ok(())
+}
+
+/// A table of so many links, whose In sides want to read and whose Out sides want both.
+fn table_of(alloc: Global, links: u32) -> Result<WantTable, Fail> {
+    let mut table = WantTable::new(alloc);
+    for link in 0..links {
+        table.push_link()?;
+        if link < table.links() {
+            let side = Side::In;
+            table.set(SideId { link, side }, true, false);
+            let side = Side::Out;
+            table.set(SideId { link, side }, true, true);
+        }
+    }
+    Ok(table)
+}
+
+/// Whether the text of a ring of 100 wants and a read begins with the 38th want, and ends with the last one and the read.
+fn keeps_63_wants(alloc: Global) -> Result<[bool; 2], Fail> {
+    let table = table_of(alloc, 50)?;
+    let mut ring = Ring::new(alloc)?;
+    if table.count() == 100 {
+        ring.put_wants(&table);
+    }
+    ring.reserve(1, 2)?;
+    ring.put(READ, b"hi");
+    ring.spell();
+    let text = &ring.text;
+    Ok([
+        text.starts_with(b"want 18 out rw\nwant 19 in r\n"),
+        text.ends_with(b"want 49 out rw\nread 7 out 16384 got 2\n"),
+    ])
+}
+
+#[test]
+fn the_ring_keeps_the_last_of_many_wants(rt: HostRuntime) -> Result<(), Fail> {
+    assert_eq!(rt; keeps_63_wants(rt.alloc())?, [true; 2]);
     Ok(())
 }
