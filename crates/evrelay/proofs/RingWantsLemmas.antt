@@ -11,7 +11,7 @@ use Rattle.ev_port.specs.declared.want_word.WantWord.{WantWord}
 use Rattle.ev_port.specs.Table.{WantsValue, named_before, named, NextWant}
 use Rattle.ev_port.specs.WantWords.{word_rows, PreviousWantWord}
 use Rattle.ev_port.proofs.WantWordLemmas.{length-word_rows, named-past}
-use Rattle.evrelay.specs.RingWants.{AreOfSides, keep_last, kept_last, want_entry, wants_of, word_entries}
+use Rattle.evrelay.specs.RingWants.{AreOfSides, keep_last, kept_last, want_entry, word_wants, word_entries}
 use Rattle.evrelay.proofs.KeepLastLemmas.{keep_last-keep_last, keep_last-end}
 
 -- One entry more, behind the words and the older half
@@ -72,14 +72,14 @@ put-all t from old now s end =
 -- The words of the last wants of a table that has many, from the last one down
 
 -- a word more stands before the others
-pub wants-push : (words : List WantWord) (w : WantWord) → wants_of (words ++ w ∷ []) ≡ word_rows w ++ wants_of words
+pub wants-push : (words : List WantWord) (w : WantWord) → word_wants (words ++ w ∷ []) ≡ word_rows w ++ word_wants words
 wants-push [] w = sym (append-nil (word_rows w))
-wants-push (v ∷ words) w = ap (λ ws. ws ++ word_rows v) (wants-push words w) ∙ append_assoc (word_rows w) (wants_of words) (word_rows v)
+wants-push (v ∷ words) w = ap (λ ws. ws ++ word_rows v) (wants-push words w) ∙ append_assoc (word_rows w) (word_wants words) (word_rows v)
 
 -- the wants of the sides from this place on are those of the words so far
 pub record TakenSoFar (t : WantsValue) (before count : ℕ) (words : List WantWord) : Type 0 where
-  pub split : named t ≡ named_before t (64 * before) ++ wants_of words
-  pub counted : count ≡ length (wants_of words)
+  pub split : named t ≡ named_before t (64 * before) ++ word_wants words
+  pub counted : count ≡ length (word_wants words)
   pub short : length words ≤ count
   pub few : count < 128
   pub sides : AreOfSides words
@@ -97,14 +97,14 @@ take-begin t before words none place = subst (TakenSoFar t before 0) (sym none) 
 pub take-more : (t : WantsValue) (before count next : ℕ) (words : List WantWord) (w : WantWord) → TakenSoFar t before count words
     → PreviousWantWord t before w → count < 64 → next ≡ count + length (word_rows w) → TakenSoFar t w.at next (words ++ w ∷ [])
 take-more t before count next words w s previous fewer is =
-    let many = ap length (wants-push words w) ∙ length-append (word_rows w) (wants_of words) in
+    let many = ap length (wants-push words w) ∙ length-append (word_rows w) (word_wants words) in
     let counted = s.counted in
     let short = s.short in
     let some = previous.some in
     let most = length-word_rows w in
     record {
-      split = s.split ∙ ap (λ ws. ws ++ wants_of words) previous.named
-          ∙ append_assoc (named_before t (64 * w.at)) (word_rows w) (wants_of words)
+      split = s.split ∙ ap (λ ws. ws ++ word_wants words) previous.named
+          ∙ append_assoc (named_before t (64 * w.at)) (word_rows w) (word_wants words)
           ∙ ap (λ ws. named_before t (64 * w.at) ++ ws) (sym (wants-push words w));
       counted = omega (arith, is, many, counted);
       short = omega (arith, is, short, some, length-append words (w ∷ []));
@@ -115,7 +115,7 @@ take-more t before count next words w s previous fewer is =
 pub take-none : (t : WantsValue) (before count : ℕ) (words : List WantWord) → TakenSoFar t before count words → count < 64
     → 64 ≤ length (named t) → named_before t (64 * before) ≡ [] → ⊥
 take-none t before count words s fewer many none =
-    let e = ap length (s.split ∙ ap (λ ws. ws ++ wants_of words) none) in
+    let e = ap length (s.split ∙ ap (λ ws. ws ++ word_wants words) none) in
     let counted = s.counted in
     omega (arith, e, fewer, many, counted)
 
@@ -124,9 +124,9 @@ pub take-all : (t : WantsValue) (before count : ℕ) (words : List WantWord) →
 take-all t before count words s enough =
     let counted = s.counted in
     sym (ap (λ ws. keep_last 64 (map want_entry ws)) s.split
-    ∙ ap (keep_last 64) (map-append want_entry (named_before t (64 * before)) (wants_of words))
+    ∙ ap (keep_last 64) (map-append want_entry (named_before t (64 * before)) (word_wants words))
     ∙ keep_last-end 64 (map want_entry (named_before t (64 * before))) (word_entries words)
-    (omega (arith, enough, counted, length-map (wants_of words) want_entry)))
+    (omega (arith, enough, counted, length-map (word_wants words) want_entry)))
 
 -- where a table has many wants, they alone are kept
 pub many-kept : (words : List WantWord) (older newer old : List Entry) (t : WantsValue) → older ≡ [] → newer ≡ []

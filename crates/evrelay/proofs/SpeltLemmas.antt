@@ -18,7 +18,7 @@ use Rattle.ev_port.proofs.NamedLemmas.{one}
 use Rattle.ev_port.proofs.WantWordLemmas.{length-word_le, word_rows-all}
 use Rattle.script_text.specs.Room.{GrewBy, HasRoom, room_of}
 use Rattle.evrelay.specs.RingText.{counted_line, ring_text, SpeltBehind}
-use Rattle.evrelay.specs.RingWants.{keep_last, kept_last, want_entry, wants_of, word_entries}
+use Rattle.evrelay.specs.RingWants.{keep_last, kept_last, want_entry, word_wants, word_entries}
 use Rattle.evrelay.proofs.RingLemmas.{ring_text-halves}
 
 abbrev Text : Type 0
@@ -129,12 +129,12 @@ room-side x k p q a b within room s =
 
 -- Word by word, from the last one on
 
-pub wants-drop : (j : ℕ) (words : List WantWord) → length (wants_of (drop j words)) ≤ length (wants_of words)
+pub wants-drop : (j : ℕ) (words : List WantWord) → length (word_wants (drop j words)) ≤ length (word_wants words)
 wants-drop zero words = omega arith
 wants-drop (suc j) [] = omega arith
 wants-drop (suc j) (w ∷ words) =
     let s = wants-drop j words in
-    let l = length-append (wants_of words) (word_rows w) in
+    let l = length-append (word_wants words) (word_rows w) in
     omega (arith, s, l)
 
 module _ (words : List WantWord) (at next : ℕ) (w d : WantWord) (some : 0 < at) (is : next ≡ at - 1) (within : at ≤ length words)
@@ -148,19 +148,19 @@ module _ (words : List WantWord) (at next : ℕ) (w d : WantWord) (some : 0 < at
   pub spelt-word : (p q r : ℕ) (a b c : Text) → SpeltBehind (word_entries (drop at words)) p q a b
       → SpeltBehind (map want_entry (word_rows w)) q r b c → SpeltBehind (word_entries (drop next words)) p r a c
   spelt-word p q r a b c first then =
-      let whole = map-append want_entry (wants_of (drop at words)) (word_rows w) in
+      let whole = map-append want_entry (word_wants (drop at words)) (word_rows w) in
       subst (λ ws. SpeltBehind (word_entries ws) p r a c) (sym from_here)
       (subst (λ es. SpeltBehind es p r a c) (sym whole)
       (spelt-append (word_entries (drop at words)) (map want_entry (word_rows w)) p q r a b c first then))
 
-  pub room-word : (p q : ℕ) (a b : Text) → HasRoom a (room_of (length (wants_of words) - p) 0)
+  pub room-word : (p q : ℕ) (a b : Text) → HasRoom a (room_of (length (word_wants words) - p) 0)
       → SpeltBehind (word_entries (drop at words)) p q a b → HasRoom b (room_of (length (word_rows w) - q) 0)
   room-word p q a b room s =
       let d = wants-drop next words in
-      let e = ap (λ ws. length (wants_of ws)) from_here in
-      let l = length-append (wants_of (drop at words)) (word_rows w) in
-      let m = length-map (wants_of (drop at words)) want_entry in
-      room-behind (word_entries (drop at words)) (length (wants_of words)) (length (word_rows w)) p q a b (omega (arith, d, e, l, m)) room s
+      let e = ap (λ ws. length (word_wants ws)) from_here in
+      let l = length-append (word_wants (drop at words)) (word_rows w) in
+      let m = length-map (word_wants (drop at words)) want_entry in
+      room-behind (word_entries (drop at words)) (length (word_wants words)) (length (word_rows w)) p q a b (omega (arith, d, e, l, m)) room s
 
 pub spelt-begin : (words : List WantWord) (at p : ℕ) (a : Text) → at ≡ length words → SpeltBehind (word_entries (drop at words)) p p a a
 spelt-begin words at p a is =
@@ -172,11 +172,11 @@ spelt-end words at p q a b none s = subst (λ n. SpeltBehind (word_entries (drop
 
 -- The words, and the two halves behind them
 
-module _ (words : List WantWord) (older newer : List Entry) (many passed left : ℕ) (a b : Text) (counted : many ≡ length (wants_of words))
+module _ (words : List WantWord) (older newer : List Entry) (many passed left : ℕ) (a b : Text) (counted : many ≡ length (word_wants words))
     (is : passed ≡ many + length older + length newer - 64) (older_short : length older ≤ 64) (newer_short : length newer ≤ 64)
     (s : SpeltBehind (word_entries words) passed left a b) (room : HasRoom a (room_of 64 0)) where
   wants_many : length (word_entries words) ≡ many
-  wants_many = length-map (wants_of words) want_entry ∙ sym counted
+  wants_many = length-map (word_wants words) want_entry ∙ sym counted
 
   -- there is room for the older half
   pub left-within : left ≤ length older

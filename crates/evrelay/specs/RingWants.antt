@@ -22,12 +22,12 @@ abbrev pub want_entry : Want → Entry
 want_entry w = entry.Want w.side w.read w.write
 
 -- the wants of some words, of which each stands behind those that follow it
-abbrev pub wants_of : List WantWord → List Want
-wants_of [] = []
-wants_of (w ∷ ws) = wants_of ws ++ word_rows w
+abbrev pub word_wants : List WantWord → List Want
+word_wants [] = []
+word_wants (w ∷ ws) = word_wants ws ++ word_rows w
 
 abbrev pub word_entries : List WantWord → List Entry
-word_entries words = map want_entry (wants_of words)
+word_entries words = map want_entry (word_wants words)
 
 -- the sides of the words have numbers below 2 ^ 33
 abbrev pub AreOfSides : List WantWord → Type 0

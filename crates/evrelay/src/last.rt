@@ -3,7 +3,7 @@ ghost use Rattle.std.specs.Prelude.{◌≡◌, ◌<◌, ◌≤◌, ◌∷◌, []
 ghost use Rattle.ev_port.specs.Table.{named};
 ghost use Rattle.script_text.specs.Room.{HasRoom, GrewBy, room_of};
 ghost use Rattle.evrelay.specs.RingText.{ring_text};
-ghost use Rattle.evrelay.specs.RingWants.{AreOfSides, keep_last, kept_last, want_entry, wants_of, word_entries};
+ghost use Rattle.evrelay.specs.RingWants.{AreOfSides, keep_last, kept_last, want_entry, word_wants, word_entries};
 
 use crate::lines::put_lines;
 use crate::want_lines::{put_words, want_entry};
@@ -28,7 +28,7 @@ pub(crate) struct LastEntries {
     newer: Vec<Entry>,
     ghost words_room: { 64 ≤ vec_capacity words },
     ghost words_sides: { AreOfSides words.items },
-    ghost counted: { many ≡ length (wants_of words.items) },
+    ghost counted: { many ≡ length (word_wants words.items) },
     ghost few: { many < 128 },
     ghost older_short: { vec_len older ≤ 64 },
     ghost newer_short: { vec_len newer ≤ 64 },
@@ -107,7 +107,7 @@ impl LastEntries {
 fn take_words(words: &mut Vec<WantWord>, wants: &WantTable) -> usize
     requires many { 64 ≤ length (named wants.now) }
     requires room { 64 ≤ vec_capacity words.old }
-    ensures counted { result ≡ length (wants_of words.new.items) }
+    ensures counted { result ≡ length (word_wants words.new.items) }
     ensures few { result < 128 }
     ensures sides { AreOfSides words.new.items }
     ensures last { keep_last 64 (word_entries words.new.items) ≡ keep_last 64 (map want_entry (named wants.now)) }

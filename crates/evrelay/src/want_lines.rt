@@ -4,7 +4,7 @@ ghost use Rattle.ev_port.specs.Table.{wants_some};
 ghost use Rattle.ev_port.specs.WantWords.{word_rows};
 ghost use Rattle.script_text.specs.Room.{HasRoom, room_of};
 ghost use Rattle.evrelay.specs.RingText.{SpeltBehind};
-ghost use Rattle.evrelay.specs.RingWants.{AreOfSides, want_entry, wants_of, word_entries};
+ghost use Rattle.evrelay.specs.RingWants.{AreOfSides, want_entry, word_wants, word_entries};
 
 use crate::lines::put_counted;
 use ev_port::{Want, WantWord};
@@ -28,7 +28,7 @@ pub(crate) fn want_entry(want: Want) -> Entry
 /// were not there.
 pub(crate) fn put_words(text: &mut Vec<u8>, words: &[WantWord], passed: usize) -> usize
     requires sides { AreOfSides words.now }
-    requires room { HasRoom text.old (room_of (length (wants_of words.now) - passed) 0) }
+    requires room { HasRoom text.old (room_of (length (word_wants words.now) - passed) 0) }
     ensures { SpeltBehind (word_entries words.now) passed result text.old text.new }
 {
     let mut at = words.len();
