@@ -160,7 +160,8 @@ module _ (words : List WantWord) (at next : ℕ) (w d : WantWord) (some : 0 < at
       let e = ap (λ ws. length (word_wants ws)) from_here in
       let l = length-append (word_wants (drop at words)) (word_rows w) in
       let m = length-map (word_wants (drop at words)) want_entry in
-      room-behind (word_entries (drop at words)) (length (word_wants words)) (length (word_rows w)) p q a b (omega (arith, d, e, l, m)) room s
+      room-behind (word_entries (drop at words)) (length (word_wants words)) (length (word_rows w)) p q a b
+      (omega (arith, d, e, l, m)) room s
 
 pub spelt-begin : (words : List WantWord) (at p : ℕ) (a : Text) → at ≡ length words → SpeltBehind (word_entries (drop at words)) p p a a
 spelt-begin words at p a is =
