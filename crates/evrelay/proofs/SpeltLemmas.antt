@@ -1,5 +1,5 @@
 -- Texts that grew by the lines of some entries, of which the first so many are passed over.
-use Rattle.std.proofs.Common.{◌≡◌, ◌∙◌, ℕ, suc, zero, ◌+◌, ◌-◌, ◌*◌, ◌<◌, ◌≤◌, List, [], ◌∷◌, ◌++◌, length, drop, map, refl, sym, ap, subst}
+use Rattle.std.proofs.Common.{◌≡◌, ◌∙◌, ℕ, suc, zero, ◌+◌, ◌-◌, ◌<◌, ◌≤◌, List, [], ◌∷◌, ◌++◌, length, drop, map, sym, ap, subst}
 use Rattle.std.proofs.Common.{add-one, arith, inl, inr, true, false, get_or, append-nil, append_assoc, length-append, length-drop}
 use Rattle.std.specs.Prelude.{filter}
 use Rattle.std.specs.declared.alloc.Global.{Global}
@@ -18,7 +18,7 @@ use Rattle.ev_port.proofs.NamedLemmas.{one}
 use Rattle.ev_port.proofs.WantWordLemmas.{length-word_le, word_rows-all}
 use Rattle.script_text.specs.Room.{GrewBy, HasRoom, room_of}
 use Rattle.evrelay.specs.RingText.{counted_line, ring_text, SpeltBehind}
-use Rattle.evrelay.specs.RingWants.{keep_last, kept_last, want_entry, word_wants, word_entries}
+use Rattle.evrelay.specs.RingWants.{kept_last, want_entry, word_wants, word_entries}
 use Rattle.evrelay.proofs.RingLemmas.{ring_text-halves}
 
 abbrev Text : Type 0

@@ -1,7 +1,6 @@
 use Rattle.std.proofs.Common.{◌≡◌, ◌-◌, length, arith, map, ap, subst, ◌∙◌, sym}
 use Rattle.ev_port.specs.declared.port.Want.{Want}
-use Rattle.ev_port.specs.Table.{wants_some}
-use Rattle.ev_port.specs.WantWords.{word_rows_before, word_rows}
+use Rattle.ev_port.specs.WantWords.{word_rows_before}
 use Rattle.ev_port.proofs.WantWordLemmas.{word_rows-all}
 use Rattle.script_text.specs.Room.{HasRoom, room_of}
 use Rattle.evrelay.specs.RingText.{SpeltBehind}

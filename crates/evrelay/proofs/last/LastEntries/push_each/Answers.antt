@@ -1,5 +1,5 @@
 use Rattle.evrelay.specs.RingWants.{kept_last}
-use Rattle.evrelay.proofs.RingWantsLemmas.{put-begin, put-more, put-all}
+use Rattle.evrelay.proofs.RingWantsLemmas.{put-more, put-all}
 use Rattle.evrelay.proofs.last.LastEntries.push_each.Goals as goal
 
 pub loop-want-preserved : goal.loop-want-preserved

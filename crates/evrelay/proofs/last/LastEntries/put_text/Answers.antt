@@ -1,4 +1,4 @@
-use Rattle.std.proofs.Common.{◌≡◌, ◌≤◌, ◌+◌, ◌-◌, ◌∙◌, List, ap, drop, length, subst, arith}
+use Rattle.std.proofs.Common.{◌≡◌, ◌+◌, ◌-◌, ◌∙◌, List, ap, drop, length, subst, arith}
 use Rattle.ev_types.specs.declared.entry.Entry.{Entry}
 use Rattle.script_text.specs.Room.{GrewBy, room_of}
 use Rattle.evrelay.specs.RingText.{ring_text, SpeltBehind}
