@@ -30,16 +30,16 @@ fn previous_in(lists: [&[bool]; 4], before: usize) -> Option<usize> {
         .find(|number| is_in_either(lists, *number))
 }
 
-/// Whether a bit of a word is set.
-fn has_bit(word: u64, bit: usize) -> bool {
-    (word >> (bit % 64)) & 1 == 1
+/// Whether the bit of a number is set in its word.
+fn is_in_word(set: &NumberSet, number: usize) -> bool {
+    (set.word(number / 64) >> (number % 64)) & 1 == 1
 }
 
 /// Whether the set answers as the list does.
 fn answers_as(set: &NumberSet, list: &[bool]) -> bool {
     for number in 0..ASKED {
         if set.contains(number) != is_in(list, number)
-            || has_bit(set.word(number / 64), number % 64) != is_in(list, number)
+            || is_in_word(set, number) != is_in(list, number)
             || set.next(number) != next_in([list, list, list, list], number)
             || set.previous(number) != previous_in([list, list, list, list], number)
         {
@@ -180,19 +180,37 @@ fn first_wrong_find(sets: [&NumberSet; 4], lists: [&[bool]; 4]) -> Option<usize>
     None
 }
 
-/// The first place below which another word is found than in lists.
+/// Whether the bits of a word are the numbers from this one on, in lists.
+fn has_bits(lists: [&[bool]; 4], from: usize, word: u64) -> bool {
+    for bit in 0..64usize {
+        if ((word >> bit) & 1 == 1) != is_in_either(lists, from.saturating_add(bit)) {
+            return false;
+        }
+    }
+    true
+}
+
+/// Whether a word was found where there is a last number, and is that of this number.
+fn is_last_word(lists: [&[bool]; 4], found: Option<(usize, u64)>, last: Option<usize>) -> bool {
+    match (found, last) {
+        (Some((at, word)), Some(number)) => {
+            at == number / 64 && has_bits(lists, number - number % 64, word)
+        }
+        (None, None) => true,
+        _ => false,
+    }
+}
+
+/// The first place before which another last word is found than in lists.
 fn first_wrong_word(sets: [&NumberSet; 4], lists: [&[bool]; 4]) -> Option<usize> {
     let [first, second, third, fourth] = sets;
-    (0..=ASKED / 64).find(|before| {
-        match NumberSet::previous_word_in_either((first, second), (third, fourth), *before) {
-            Some((at, word)) => {
-                previous_in(lists, 64 * *before).map(|number| number / 64) != Some(at)
-                    || (0..64usize).any(|bit| has_bit(word, bit)
-                        != is_in_either(lists, 64 * at + bit))
-            }
-            None => previous_in(lists, 64 * *before).is_some(),
+    for before in 0..6usize {
+        let found = NumberSet::previous_word_in_either((first, second), (third, fourth), before);
+        if !is_last_word(lists, found, previous_in(lists, 64 * before)) {
+            return Some(before);
         }
-    })
+    }
+    None
 }
 
 /// Fills four sets, of different lengths.
@@ -208,7 +226,7 @@ fn fill_four(
     fill(fourth, 250, 5)
 }
 
-/// Where a walk over four sets goes wrong, where a search does, and where one for words does.
+/// Where a walk over four sets goes wrong, and where a search for a number or for a word does.
 fn wrong_together(first: &Both, second: &Both, third: &Both, fourth: &Both) -> [Option<usize>; 3] {
     let sets = [&first.set, &second.set, &third.set, &fourth.set];
     let lists = [
