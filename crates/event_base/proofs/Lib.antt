@@ -7,6 +7,7 @@ mod SignalLemmas
 mod TurnLemmas
 mod FireLemmas
 mod CallLemmas
+mod WantLemmas
 mod Examples
 mod RunLemmas
 mod OrderLemmas

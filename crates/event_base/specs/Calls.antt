@@ -1,5 +1,5 @@
 -- Each call on a base: the base behind it, or why it is refused. What stands first among the refusals is told.
-use Rattle.std.specs.Prelude.{◌≡◌, ℕ, ◌+◌, ◌-◌, ◌*◌, ◌/◌, ◌^◌, ◌==◌, ◌&&◌, ◌||◌, not, Bool, true, false, if◌then◌else◌, nat_lt, nat_le, List, [], ◌∷◌, ◌++◌, length, map, count_by, slice_get, slice_set, Option, Some, None, is_some, unwrap_or, Result, Ok, Err}
+use Rattle.std.specs.Prelude.{◌≡◌, ℕ, ◌+◌, ◌-◌, ◌/◌, ◌^◌, ◌==◌, ◌&&◌, ◌||◌, not, Bool, true, false, if◌then◌else◌, nat_lt, nat_le, [], ◌∷◌, ◌++◌, length, map, count_by, slice_get, slice_set, Option, Some, None, is_some, unwrap_or, Result, Ok, Err}
 use Rattle.std.specs.List.{list_any}
 use Rattle.std.specs.Option.{option_map, option_map_or}
 use Rattle.event_base.specs.declared.event.Event.{Event}
@@ -126,6 +126,10 @@ call b number e a =
 -- the event whose callback is next, unless the loop broke
 abbrev pub next_call : BaseValue → Option ℕ
 next_call b = if b.broken then None else next_event b
+
+-- does the start of the next callback set a timeout again
+abbrev pub sets_again : BaseValue → Bool
+sets_again b = option_map_or (λ number. option_map_or is_set_again (slice_get b.events number) false) (next_call b) false
 
 -- the event that fires next and its flags, where there is one
 abbrev pub next_fire : BaseValue → Option (ℕ × ℕ)

@@ -1,13 +1,16 @@
 // A base, and what is done to its events one by one.
 ghost use Rattle.std.specs.Prelude.{◌≡◌, true, ◌≤◌, ◌<◌, ◌+◌, ◌^◌, if◌then◌else◌, unwrap_or, length, Some, None, Ok, Err, IfOk, IfErr};
-ghost use Rattle.std.specs.Prelude.{OnOk, OnErr};
+ghost use Rattle.std.specs.Prelude.{◌≢◌, OnOk, OnErr, false, is_some};
+ghost use Rattle.std.specs.List.{list_any};
 ghost use Rattle.std.specs.Option.{ForSome};
 ghost use Rattle.event_base.specs.Calls.{IsAnswer, is_count, new_base, fit, new_event, set_priority, add_event, del_event, activate};
-ghost use Rattle.event_base.specs.Calls.{signal, begin_turn, next_active, next_fire, poll_timeout, ended, loop_break, loop_exit};
+ghost use Rattle.event_base.specs.Calls.{signal, begin_turn, next_active, next_fire, sets_again, poll_timeout, ended, loop_break, loop_exit};
 ghost use Rattle.event_base.specs.Freeing.{free_event, is_pending};
 ghost use Rattle.event_base.specs.Delays.{common};
-ghost use Rattle.event_base.specs.Turns.{least, active_priority, next_event};
-ghost use Rattle.event_base.specs.Rousing.{risen, wakers, CanRise, AreApart};
+ghost use Rattle.event_base.specs.Fires.{hearing};
+ghost use Rattle.event_base.specs.Turns.{time_at, is_due, least, active_priority, next_event};
+ghost use Rattle.event_base.specs.Rousing.{event_of, needed, risen, wakers, CanRise, AreApart};
+ghost use Rattle.min_timer.specs.Queue.{has_delay};
 
 use crate::BaseFault;
 use crate::deadlines::Deadlines;
@@ -122,7 +125,7 @@ impl Base {
 
     /// Adds an event: it is pending from then on. With a timeout, in milliseconds and at most 2^62, it has the deadline so
     /// long after the base's time, in place of any other, and stops being active where an older timeout made it so. Without
-    /// one it keeps the deadline that it had. NoEvent comes first, then Spent. Takes memory; logarithmic in
+    /// one it keeps the deadline that it had. NoEvent comes first, then Spent. Takes memory for a timeout; logarithmic in
     /// the number of deadlines, and linear in that of active events at worst.
     ///
     /// Libevent: event2/event.h, `event_add`; "Working with events".
@@ -130,6 +133,7 @@ impl Base {
         requires { ForSome timeout (λ delay. delay ≤ 2 ^ 62) }
         ensures ok { OnOk result (add_event self.old event timeout ≡ Ok self.new) }
         ensures refused { IfErr result (λ fault. IsAnswer fault (add_event self.old event timeout)) }
+        ensures memory { result ≡ Err BaseFault.Memory → is_some timeout ≡ true }
         ensures stays { OnErr result (self.new ≡ self.old) }
     {
         match timeout {
@@ -142,6 +146,7 @@ impl Base {
     fn add_for_ever(&mut self, event: u32) -> Result<(), BaseFault>
         ensures ok { OnOk result (add_event self.old event None ≡ Ok self.new) }
         ensures refused { IfErr result (λ fault. add_event self.old event None ≡ Err fault) }
+        ensures memory { result ≢ Err BaseFault.Memory }
         ensures stays { OnErr result (self.new ≡ self.old) }
     {
         let Some(kept) = live_event(&self.events, event as usize) else {
@@ -216,13 +221,15 @@ impl Base {
     }
 
     /// Registers a delay, in milliseconds, that many events will have. One that is registered changes nothing. TooManyDelays
-    /// comes where 256 others are registered. Takes memory; linear in the number of registered delays.
+    /// comes where 256 others are registered. Takes memory for one that is not registered; linear in the number of registered
+    /// delays.
     ///
     /// Libevent: event2/event.h, `event_base_init_common_timeout`; "Working with events".
     /// Differs: events need no special timeout, only this delay.
     pub fn common(&mut self, delay: u64) -> Result<(), BaseFault>
         ensures ok { OnOk result (common self.old delay ≡ Ok self.new) }
         ensures refused { IfErr result (λ fault. IsAnswer fault (common self.old delay)) }
+        ensures memory { result ≡ Err BaseFault.Memory → has_delay delay self.old.delays ≡ false }
         ensures stays { OnErr result (self.new ≡ self.old) }
     {
         self.deadlines.common(delay)?;
@@ -244,12 +251,13 @@ impl Base {
     }
 
     /// Makes an event active with these flags, for one call of its callback. An event that is active already gets the flags
-    /// beside its own, and no call more. NoEvent comes first, then Spent. Takes memory; constant cost.
+    /// beside its own, and no call more. NoEvent comes first, then Spent. Takes memory where it is not active yet; constant cost.
     ///
     /// Libevent: event2/event.h, `event_active`; "Working with events".
     pub fn activate(&mut self, event: u32, what: u8) -> Result<(), BaseFault>
         ensures ok { OnOk result (activate self.old event what ≡ Ok self.new) }
         ensures refused { IfErr result (λ fault. IsAnswer fault (activate self.old event what)) }
+        ensures memory { result ≡ Err BaseFault.Memory → needed (event_of self.old.events event) ≡ 1 }
         ensures stays { OnErr result (self.new ≡ self.old) }
     {
         let Some(kept) = live_event(&self.events, event as usize) else {
@@ -262,14 +270,15 @@ impl Base {
     }
 
     /// A signal came so many times: each pending event of it is called so many times more. Those that are not active yet
-    /// become so in the order of their making. A count of 0 changes nothing. Spent comes first. Takes memory;
-    /// linear in the number of events.
+    /// become so in the order of their making. A count of 0 changes nothing. Spent comes first. Takes memory where a pending
+    /// event of it is called; linear in the number of events.
     ///
     /// Libevent: event2/event.h, `evsignal_new`; "Working with events".
     /// Differs: a signal is handed in; counts that come while an event is active are added.
     pub fn signal(&mut self, number: u32, count: u32) -> Result<(), BaseFault>
         ensures ok { OnOk result (signal self.old number count ≡ Ok self.new) }
         ensures refused { IfErr result (λ fault. IsAnswer fault (signal self.old number count)) }
+        ensures memory { result ≡ Err BaseFault.Memory → (0 < count) × (0 < length (hearing number 0 self.old.events)) }
         ensures stays { OnErr result (self.new ≡ self.old) }
     {
         if count == 0 {
@@ -290,13 +299,14 @@ impl Base {
     /// Begins a turn. The base's time becomes this clock reading, in milliseconds and cut at 2^62, unless it is later already.
     /// Each pending event whose deadline is at most that time becomes active; equal deadlines come in the order of adding.
     /// The batch is what is then active of the most urgent priority; that of a base whose loop ended is empty. Spent comes
-    /// first. Takes memory; linear in the number of events that are due and that of priorities.
+    /// first. Takes memory where an event is due; linear in the number of events that are due and that of priorities.
     ///
     /// Libevent: event2/event.h, `event_base_loop` with `EVLOOP_ONCE`; "Working with an event loop".
     /// Differs: one turn runs one priority, and a clock that falls is not believed.
     pub fn begin_turn(&mut self, now: u64) -> Result<(), BaseFault>
         ensures ok { OnOk result (begin_turn self.old now ≡ Ok self.new) }
         ensures refused { IfErr result (λ fault. IsAnswer fault (begin_turn self.old now)) }
+        ensures memory { result ≡ Err BaseFault.Memory → list_any (is_due (time_at self.old.time now)) self.old.events ≡ true }
         ensures stays { OnErr result (self.new ≡ self.old) }
     {
         let over = self.ended();
@@ -330,8 +340,8 @@ impl Base {
     /// Starts the next callback of the batch: answers the event and the flags of its call. None comes where the batch has no
     /// call left, or the loop broke. A non-persistent event stops being pending; the timeout of a persistent one is set
     /// again, from the scheduled moment where it fired and else from now, and never before now. Spent comes where the new
-    /// deadline or its order number would not fit. Takes memory; logarithmic in the number of deadlines where a timeout is set
-    /// again, else constant.
+    /// deadline or its order number would not fit. Takes memory where a timeout is set again, and is logarithmic in the number
+    /// of deadlines there; else constant.
     ///
     /// Libevent: event2/event.h, `event_base_loop`; "Working with events".
     /// Differs: what becomes active while callbacks run waits for a later turn.
@@ -339,6 +349,7 @@ impl Base {
         ensures fire { IfOk result (λ fire. fire ≡ next_fire self.old) }
         ensures ok { OnOk result (next_active self.old ≡ Ok self.new) }
         ensures refused { IfErr result (λ fault. IsAnswer fault (next_active self.old)) }
+        ensures memory { result ≡ Err BaseFault.Memory → sets_again self.old ≡ true }
         ensures stays { OnErr result (self.new ≡ self.old) }
     {
         if self.broken {
@@ -407,6 +418,7 @@ impl Base {
           next_activation = self.old.next_activation + length (wakers self.old.events numbers.now);
         }) }
         ensures refused { IfErr result (λ fault. fault ≡ BaseFault.Memory) }
+        ensures some { OnErr result (0 < length (wakers self.old.events numbers.now)) }
         ensures stays { OnErr result (self.new ≡ self.old) }
     {
         wakers(&mut self.waking, &self.events, numbers)?;

@@ -1,10 +1,10 @@
 // The deadlines of events: a timer for each event that has one. What a deadline means stands elsewhere.
 ghost use Rattle.std.specs.Prelude.{◌≡◌, ◌≤◌, ◌<◌, ◌+◌, ◌^◌, ℕ, [], Ok, Err, Some, None, length, slice_set, IfOk, IfErr, OnOk, OnErr};
-ghost use Rattle.std.specs.Prelude.{if◌then◌else◌, nat_lt, false, ◌≢◌, ◌↔◌};
-ghost use Rattle.min_timer.specs.Queue.{number_of, with_timer, with_delay, are_too_many};
+ghost use Rattle.std.specs.Prelude.{if◌then◌else◌, nat_lt, true, false, ◌≢◌, ◌↔◌, IsOk};
+ghost use Rattle.min_timer.specs.Queue.{number_of, with_timer, with_delay, has_delay, are_too_many};
 ghost use Rattle.event_base.specs.Rising.{at};
 ghost use Rattle.event_base.specs.Ready.{IsLeast};
-ghost use Rattle.event_base.specs.Deadlines.{IsDueOrder, deadlines};
+ghost use Rattle.event_base.specs.Deadlines.{Moment, IsDueOrder, due_at, deadlines};
 
 use min_timer::{TimerFault, TimerKey, Timers};
 use std::alloc::{AllocError, Global};
@@ -60,6 +60,7 @@ impl Deadlines {
     pub fn grow(&mut self, count: usize) -> Result<(), AllocError>
         ensures moments { (k : ℕ) → at self.new.moments k ≡ at self.old.moments k }
         ensures room { OnOk result (count ≤ length self.new.moments) }
+        ensures already { count ≤ length self.old.moments → IsOk result }
         ensures stays { length self.old.moments ≤ length self.new.moments }
         ensures last { self.new.last ≡ self.old.last }
         ensures delays { self.new.delays ≡ self.old.delays }
@@ -70,14 +71,19 @@ impl Deadlines {
         Ok(())
     }
 
-    /// Registers a delay that many events will have. TooManyDelays comes where 256 others are registered. Takes memory.
+    /// Registers a delay that many events will have. TooManyDelays comes where 256 others are registered. Takes memory for one
+    /// that is not registered.
     pub fn common(&mut self, delay: u64) -> Result<(), TimerFault>
         ensures ok { OnOk result (self.new ≡ record self.old { delays = with_delay delay self.old.delays }) }
         ensures fits { OnOk result (are_too_many delay self.old.delays ≡ false) }
         ensures refused { IfErr result (λ fault. fault
             ≡ (if are_too_many delay self.old.delays then TimerFault.TooManyDelays else TimerFault.Memory)) }
+        ensures other { OnErr result (has_delay delay self.old.delays ≡ false) }
         ensures stays { OnErr result (self.new ≡ self.old) }
     {
+        if self.timers.is_common(delay) {
+            return Ok(());
+        }
         self.timers.common(delay)
     }
 
@@ -121,11 +127,27 @@ impl Deadlines {
         self.timers.next_deadline()
     }
 
-    /// The events whose deadline is at most this time, by deadline and then by the order of adding. Takes memory.
+    /// Is a deadline at most this time?
+    fn is_any_due(&self, time: u64) -> bool
+        ensures some { result ≡ true → (k : ℕ) × (m : Moment) × (due_at time self.now.moments k ≡ Some m) }
+        ensures none { result ≡ false → (k : ℕ) → due_at time self.now.moments k ≡ None }
+    {
+        match self.first() {
+            Some(first) => first <= time,
+            None => false,
+        }
+    }
+
+    /// The events whose deadline is at most this time, by deadline and then by the order of adding. Takes memory where there
+    /// are any.
     pub fn due(&self, alloc: Global, time: u64) -> Result<Vec<u64>, TimerFault>
         ensures events { IfOk result (λ events. IsDueOrder time self.now.moments events.items) }
         ensures refused { IfErr result (λ fault. fault ≡ TimerFault.Memory) }
+        ensures some { OnErr result ((k : ℕ) × (m : Moment) × (due_at time self.now.moments k ≡ Some m)) }
     {
+        if !self.is_any_due(time) {
+            return Ok(Vec::new(alloc));
+        }
         self.timers.due(alloc, time)
     }
 }

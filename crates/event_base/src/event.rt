@@ -27,6 +27,11 @@ pub const WRITE: u8 = 0x04;
 /// Libevent: event2/event.h, `EV_SIGNAL`; "Working with events".
 pub const SIGNAL: u8 = 0x08;
 
+// Each has its place, and no two have a bit in common: their sum is what they have together.
+const _: () = prove!(TIMEOUT | READ | WRITE | SIGNAL == 0x0f);
+
+const _: () = prove!(TIMEOUT + READ + WRITE + SIGNAL == 0x0f);
+
 /// When the timeout of a pending event fires: a moment, the delay by which it is set again, both in
 /// milliseconds, and its order number of adding.
 ///

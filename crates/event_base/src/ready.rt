@@ -1,7 +1,7 @@
 // Which events are active: a queue for each priority, and the place of each event. Why an event is active, and what its
 // callback changes, stands elsewhere.
 ghost use Rattle.std.specs.Prelude.{◌≡◌, ◌≤◌, ◌<◌, ◌+◌, ◌^◌, ℕ, List, [], Ok, Err, Some, None, true, length, slice_set, IfOk, IfErr, OnOk};
-ghost use Rattle.std.specs.Prelude.{OnErr, if◌then◌else◌};
+ghost use Rattle.std.specs.Prelude.{OnErr, IsOk, if◌then◌else◌};
 ghost use Rattle.event_base.specs.Rising.{at};
 ghost use Rattle.event_base.specs.Ready.{IsFront, IsNext, IsLeast, CanWake, woken, CanAppend, appended_all, orders};
 ghost use Rattle.event_base.specs.Ready.{priorities as priorities_of};
@@ -80,6 +80,7 @@ impl Ready {
     pub fn grow(&mut self, count: usize) -> Result<(), AllocError>
         ensures places { (k : ℕ) → at self.new.places k ≡ at self.old.places k }
         ensures room { OnOk result (count ≤ length self.new.places) }
+        ensures already { count ≤ length self.old.places → IsOk result }
         ensures stays { length self.old.places ≤ length self.new.places }
         ensures priorities { self.new.priorities ≡ self.old.priorities }
         ensures next { self.new.next ≡ self.old.next }
@@ -164,6 +165,7 @@ impl Ready {
           next = self.old.next + length waking.now;
         }) }
         ensures refused { IfErr result (λ fault. (fault ≡ PrioFault.Memory) × (self.new ≡ self.old)) }
+        ensures some { OnErr result (0 < length waking.now) }
     {
         append_all(&mut self.active, waking)?;
         for w in waking {
@@ -182,6 +184,7 @@ fn append_all(active: &mut Active, waking: &[Waking]) -> Result<(), PrioFault>
     requires { CanAppend active.old waking.now }
     ensures ok { OnOk result (active.new ≡ appended_all active.old waking.now) }
     ensures refused { IfErr result (λ fault. (fault ≡ PrioFault.Memory) × (active.new ≡ active.old)) }
+    ensures some { OnErr result (0 < length waking.now) }
 {
     for at in 0..waking.len() {
         let w = waking[at];

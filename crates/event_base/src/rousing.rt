@@ -1,6 +1,6 @@
 // Events that get a flag one after another.
 ghost use Rattle.std.specs.Prelude.{◌≡◌, ◌<◌, ◌≤◌, ◌+◌, ◌^◌, false, if◌then◌else◌, IfOk, IfErr, OnOk, OnErr, All, length, slice_set};
-ghost use Rattle.std.specs.Prelude.{count_by, not};
+ghost use Rattle.std.specs.Prelude.{Err, true, count_by, not};
 ghost use Rattle.std.specs.Option.{option_map};
 ghost use Rattle.event_base.specs.Events.{again, set_again};
 ghost use Rattle.event_base.specs.Calls.{fit};
@@ -20,7 +20,8 @@ use std::alloc::{AllocError, Global};
 /// has less room.
 pub fn wakers(waking: &mut Vec<Waking>, events: &[Event], numbers: &[u64]) -> Result<(), AllocError>
     requires { All (λ k. k < length events.now) numbers.now }
-    ensures { OnOk result (waking.new.items ≡ wakers events.now numbers.now) }
+    ensures list { OnOk result (waking.new.items ≡ wakers events.now numbers.now) }
+    ensures some { OnErr result (0 < length (wakers events.now numbers.now)) }
 {
     waking.clear();
     for number in numbers {
@@ -56,9 +57,10 @@ pub fn raise_all(
     }
 }
 
-/// The numbers of the pending events of a signal. Takes memory.
+/// The numbers of the pending events of a signal. Takes memory where there are any.
 pub fn hearing(alloc: Global, events: &[Event], signal: u32) -> Result<Vec<u64>, AllocError>
-    ensures { IfOk result (λ numbers. numbers.items ≡ hearing signal 0 events.now) }
+    ensures list { IfOk result (λ numbers. numbers.items ≡ hearing signal 0 events.now) }
+    ensures some { OnErr result (0 < length (hearing signal 0 events.now)) }
 {
     let mut numbers = Vec::new(alloc);
     for at in 0..events.len() {
@@ -99,7 +101,7 @@ pub fn runs_out_at(events: &[Event], time: u64, next: u64) -> bool
     left < events.len() as u64 && left < woken_at(events, time)
 }
 
-/// Sets the timeout of an event again as its callback starts with these flags, or takes it away. Takes memory.
+/// Sets the timeout of an event again as its callback starts with these flags, or takes it away. Takes memory where it sets it.
 pub fn set_again(
     deadlines: &mut Deadlines,
     event: u32,
@@ -116,6 +118,7 @@ pub fn set_again(
     ensures fits { OnOk result (is_past_numbers time (deadlines.old.last + 1) flags kept.now ≡ false) }
     ensures refused { IfErr result (λ fault. fault
         ≡ (if is_past_numbers time (deadlines.old.last + 1) flags kept.now then BaseFault.Spent else BaseFault.Memory)) }
+    ensures memory { result ≡ Err BaseFault.Memory → is_set_again kept.now ≡ true }
     ensures stays { OnErr result (deadlines.new ≡ deadlines.old) }
 {
     let Some(timeout) = kept.again() else {

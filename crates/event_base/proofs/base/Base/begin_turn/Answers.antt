@@ -1,19 +1,20 @@
 -- The due events become active, and then the batch is fixed.
-use Rattle.std.proofs.Common.{◌≡◌, ◌∙◌, ℕ, ◌+◌, ◌-◌, ◌<◌, ◌≤◌, ◌^◌, max, min, sym, ap, subst, refl, [], map, count_by, slice_get, length}
-use Rattle.std.proofs.Common.{Some, None, Ok, Err, IfErr, is_some, true, false, not, List, arith}
+use Rattle.std.proofs.Common.{◌≡◌, ◌∙◌, ℕ, ◌+◌, ◌<◌, ◌^◌, max, sym, ap, subst, map, count_by, length}
+use Rattle.std.proofs.Common.{Ok, IfErr, true, false, not, List, arith}
 use Rattle.std.proofs.lemmas.Bool.{ltb-true, not-false}
 use Rattle.event_base.specs.declared.event.Event.{Event}
 use Rattle.event_base.specs.Base.{BaseValue}
-use Rattle.event_base.specs.Events.{made}
 use Rattle.event_base.specs.BaseView.{base_of}
 use Rattle.std.proofs.lemmas.Result.{err_from_is_err_and}
 use Rattle.event_base.specs.Deadlines.{due_at}
-use Rattle.event_base.specs.Turns.{time_at, wakes, timed_out}
+use Rattle.std.specs.List.{list_any}
+use Rattle.event_base.specs.Turns.{time_at, is_due, wakes, timed_out}
 use Rattle.event_base.specs.Calls.{IsAnswer, begin_turn, ended, fit}
 use Rattle.event_base.specs.Faults.{from_timers}
 use Rattle.event_base.specs.Rousing.{risen, wakers}
 use Rattle.event_base.proofs.TurnLemmas.{risen-due, can-due, apart-due, wakers-due, IsOpen-start}
 use Rattle.event_base.proofs.CallLemmas.{if_err, answer-memory, begin_turn-ok, begin_turn-done, with_parts}
+use Rattle.event_base.proofs.WantLemmas.{numbers-some, Rises-some, due-any}
 use Rattle.event_base.proofs.base.Base.begin_turn.Goals as goal
 
 -- the numbers that do not run out are enough
@@ -39,6 +40,19 @@ returns-in_err-due-clause-refused c =
     subst (λ (v : BaseValue). IfErr c.from_residual.result (λ fault. IsAnswer fault (begin_turn v c.args.now))) c.self.view_is
     (if_err c.from_residual.result p.0 (λ fault. IsAnswer fault (begin_turn (base_of c.self.inside) c.args.now)) p.1
     (answer-memory (begin_turn (base_of c.self.inside) c.args.now) _ p.0 good (p.2 ∙ ap from_timers c.in_err-due.ensures.refused)))
+
+pub returns-in_err-due-clause-memory : goal.returns-in_err-due-clause-memory
+returns-in_err-due-clause-memory c = λ wanted.
+    let items = c.self.inside.events.items in
+    let time = c.max-time.result in
+    let moments = c.self.inside.deadlines.moments in
+    let at_time : time ≡ time_at c.self.inside.time c.args.now = c.max-time.ensures ∙ ap (max c.self.inside.time) c.min.ensures in
+    let start = IsOpen-start time moments items c.self.invariant.kept.timed in
+    let some = c.in_err-due.ensures.some in
+    let there = start.open_ones some.0 some.1 some.2 in
+    let any : list_any (is_due time) items ≡ true = due-any time items some.0 some.1 there.0 there.1 there.2 in
+    subst (λ (v : BaseValue). list_any (is_due (time_at v.time c.args.now)) v.events ≡ true) c.self.view_is
+    (subst (λ t. list_any (is_due t) items ≡ true) at_time any)
 
 pub rouse-requires-clause-can : goal.rouse-requires-clause-can
 rouse-requires-clause-can c =
@@ -89,6 +103,21 @@ returns-in_err-rouse-clause-refused c =
     subst (λ (v : BaseValue). IfErr c.from_residual-in_err-rouse.result (λ fault. IsAnswer fault (begin_turn v c.args.now))) c.self.view_is
     (if_err c.from_residual-in_err-rouse.result p.0 (λ fault. IsAnswer fault (begin_turn (base_of c.self.inside) c.args.now)) p.1
     (answer-memory (begin_turn (base_of c.self.inside) c.args.now) _ p.0 good (p.2 ∙ c.in_err-rouse.ensures.refused)))
+
+pub returns-in_err-rouse-clause-memory : goal.returns-in_err-rouse-clause-memory
+returns-in_err-rouse-clause-memory c = λ wanted.
+    let items = c.self.inside.events.items in
+    let time = c.max-time.result in
+    let moments = c.self.inside.deadlines.moments in
+    let at_time : time ≡ time_at c.self.inside.time c.args.now = c.max-time.ensures ∙ ap (max c.self.inside.time) c.min.ensures in
+    let start = IsOpen-start time moments items c.self.invariant.kept.timed in
+    let due = c.in_ok-due.due.items in
+    let many : 0 < length due = subst (λ ks. 0 < length ks) c.deref-2.ensures.value (numbers-some _ _ c.in_err-rouse.ensures.some) in
+    let some = Rises-some due (due_at time moments) c.in_ok-due.ensures.events many in
+    let there = start.open_ones some.0 some.1 some.2 in
+    let any : list_any (is_due time) items ≡ true = due-any time items some.0 some.1 there.0 there.1 there.2 in
+    subst (λ (v : BaseValue). list_any (is_due (time_at v.time c.args.now)) v.events ≡ true) c.self.view_is
+    (subst (λ t. list_any (is_due t) items ≡ true) at_time any)
 
 pub returns-clause-ok : goal.returns-clause-ok
 returns-clause-ok c =

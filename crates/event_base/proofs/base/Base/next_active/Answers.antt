@@ -1,8 +1,9 @@
 -- The front of the batch starts its callback.
-use Rattle.std.proofs.Common.{◌≡◌, ◌∙◌, ℕ, ◌+◌, ◌-◌, ◌<◌, ◌≤◌, ◌^◌, max, min, sym, ap, subst, refl, [], map, count_by, slice_get, List}
-use Rattle.std.proofs.Common.{length, Some, None, Ok, Err, IfErr, is_some, true, false, arith}
+use Rattle.std.proofs.Common.{◌≡◌, ◌∙◌, ℕ, ◌+◌, ◌<◌, sym, ap, subst, slice_get, List}
+use Rattle.std.proofs.Common.{length, Some, None, Err, IfErr, true, false, arith}
 use Rattle.event_base.specs.declared.base.Base.TheInside.{Inside}
 use Rattle.event_base.specs.declared.event.Event.{Event}
+use Rattle.event_base.specs.declared.fault.BaseFault.TheVariants.{Memory}
 use Rattle.event_base.specs.Base.{BaseValue}
 use Rattle.event_base.specs.Events.{made}
 use Rattle.event_base.specs.BaseView.{base_of}
@@ -10,12 +11,13 @@ use Rattle.event_base.specs.Ready.{IsNext}
 use Rattle.event_base.specs.Tied.{AreKept}
 use Rattle.std.proofs.lemmas.Result.{err_from_is_err_and}
 use Rattle.event_base.specs.Turns.{next_event}
-use Rattle.event_base.specs.Calls.{IsAnswer, next_active}
+use Rattle.event_base.specs.Calls.{IsAnswer, next_active, sets_again}
 use Rattle.event_base.specs.Fires.{is_past_numbers}
 use Rattle.event_base.proofs.TiedLemmas.{slice_get-within, slice_get-get_or}
 use Rattle.event_base.proofs.FireLemmas.{next_event-is, next-there}
 use Rattle.event_base.proofs.CallLemmas.{next_active-call, next_active-none, next_fire-call, next_fire-none, answer-spent, call-ok}
 use Rattle.event_base.proofs.CallLemmas.{called_base, called-kept, if_err}
+use Rattle.event_base.proofs.WantLemmas.{sets_again-is}
 use Rattle.event_base.proofs.base.Base.next_active.Goals as goal
 
 -- the event that fires next has a number in range, and is the next of the base
@@ -78,6 +80,18 @@ returns-in_err-timeout-clause-refused c =
     (if_err c.from_residual.result p.0 (λ fault. IsAnswer fault (next_active b)) p.1
     (answer-spent past (next_active b) (called_base b number c.in-Some-event_at.kept c.in-Some-active.active) p.0 step
     (p.2 ∙ c.in_err-timeout.ensures.refused)))
+
+pub returns-in_err-timeout-clause-memory : goal.returns-in_err-timeout-clause-memory
+returns-in_err-timeout-clause-memory c = λ wanted.
+    let b = base_of c.self.inside in
+    let number = c.in-Some.number in
+    let front = front-of c.self.inside number c.self.invariant.kept c.in-Some.ensures in
+    let is = kept-is c.in-Some-event_at.kept number c.deref.ensures.value c.in-Some-event_at.ensures in
+    let p = err_from_is_err_and c.from_residual.result c.from_residual.ensures.1 in
+    let memory : p.0 ≡ Memory = cc (wanted, p.1) in
+    let again = c.in_err-timeout.ensures.memory (ap Err (sym p.2 ∙ memory)) in
+    subst (λ (v : BaseValue). sets_again v ≡ true) c.self.view_is
+    (sets_again-is b number c.in-Some-event_at.kept c.if-self.false front.next is ∙ again)
 
 pub index_mut-called-requires : goal.index_mut-called-requires
 index_mut-called-requires c =

@@ -1,7 +1,5 @@
 -- The queues follow the events.
-use Rattle.std.proofs.Common.{◌≡◌, ◌+◌, ◌∙◌, sym, ap, refl, length}
-use Rattle.event_base.specs.Ready.{CanWake}
-use Rattle.event_base.specs.Rousing.{wakers, CanRise}
+use Rattle.std.proofs.Common.{sym, ap, length}
 use Rattle.event_base.proofs.RousingLemmas.{CanRise-known, risen-kept}
 use Rattle.event_base.proofs.base.Base.rouse.Goals as goal
 
@@ -15,7 +13,7 @@ wake_all-requires-clause-can c =
     let both = risen-kept _ _ _ c.args.numbers.now c.self.inside.events.items c.self.inside.deadlines
     c.self.inside.ready.priorities c.self.inside.ready.places c.self.inside.ready.next 0 c.self.invariant.kept c.requires.apart
     (rw (← c.self.view_is) at c.requires.can) in
-    rw (c.deref-2.ensures.value, c.in_ok-wakers.ensures, c.deref.ensures.value) both.0
+    rw (c.deref-2.ensures.value, c.in_ok-wakers.ensures.list, c.deref.ensures.value) both.0
 
 pub invariant_of-self-2 : goal.invariant_of-self-2
 invariant_of-self-2 c =
@@ -28,7 +26,7 @@ invariant_of-self-2 c =
         c.next-next.ensures,
         c.in_ok-wake_all.ensures.ok,
         c.deref-2.ensures.value,
-        c.in_ok-wakers.ensures,
+        c.in_ok-wakers.ensures.list,
         c.deref.ensures.value,
       ) both.1;
       early = c.self.invariant.early;

@@ -1,8 +1,7 @@
 -- The pending events of the signal get its flag and its calls.
-use Rattle.std.proofs.Common.{◌≡◌, ◌∙◌, ℕ, ◌+◌, ◌-◌, ◌<◌, ◌≤◌, ◌^◌, max, min, sym, ap, subst, refl, [], map, count_by, slice_get, length}
-use Rattle.std.proofs.Common.{Some, None, Ok, Err, is_some, true, false, arith}
+use Rattle.std.proofs.Common.{◌≡◌, ◌∙◌, ◌+◌, ◌<◌, ◌^◌, sym, ap, subst, [], count_by, length}
+use Rattle.std.proofs.Common.{Ok, false, arith}
 use Rattle.event_base.specs.Base.{BaseValue}
-use Rattle.event_base.specs.Events.{made}
 use Rattle.event_base.specs.BaseView.{base_of}
 use Rattle.std.specs.List.{list_any}
 use Rattle.event_base.specs.Fires.{hearing, is_woken_by, overflows}
@@ -16,7 +15,7 @@ pub rouse-requires-clause-can : goal.rouse-requires-clause-can
 rouse-requires-clause-can c =
     let items = c.self.inside.events.items in
     let next = c.self.inside.ready.next in
-    let numbers : c.deref-4.result.now ≡ hearing c.args.number 0 items = c.deref-4.ensures.value ∙ c.in_ok-numbers.ensures ∙ ap
+    let numbers : c.deref-4.result.now ≡ hearing c.args.number 0 items = c.deref-4.ensures.value ∙ c.in_ok-numbers.ensures.list ∙ ap
     (hearing c.args.number 0) c.deref-3.ensures.value in
     let woken : c.woken_by.result ≡ count_by (is_woken_by c.args.number) items = c.woken_by.ensures ∙ ap
     (count_by (is_woken_by c.args.number)) c.deref.ensures.value in
@@ -29,7 +28,7 @@ pub rouse-requires-clause-apart : goal.rouse-requires-clause-apart
 rouse-requires-clause-apart c =
     let items = c.self.inside.events.items in
     let next = c.self.inside.ready.next in
-    let numbers : c.deref-4.result.now ≡ hearing c.args.number 0 items = c.deref-4.ensures.value ∙ c.in_ok-numbers.ensures ∙ ap
+    let numbers : c.deref-4.result.now ≡ hearing c.args.number 0 items = c.deref-4.ensures.value ∙ c.in_ok-numbers.ensures.list ∙ ap
     (hearing c.args.number 0) c.deref-3.ensures.value in
     let woken : c.woken_by.result ≡ count_by (is_woken_by c.args.number) items = c.woken_by.ensures ∙ ap
     (count_by (is_woken_by c.args.number)) c.deref.ensures.value in
@@ -42,7 +41,7 @@ pub rouse-requires-clause-fits : goal.rouse-requires-clause-fits
 rouse-requires-clause-fits c =
     let items = c.self.inside.events.items in
     let next = c.self.inside.ready.next in
-    let numbers : c.deref-4.result.now ≡ hearing c.args.number 0 items = c.deref-4.ensures.value ∙ c.in_ok-numbers.ensures ∙ ap
+    let numbers : c.deref-4.result.now ≡ hearing c.args.number 0 items = c.deref-4.ensures.value ∙ c.in_ok-numbers.ensures.list ∙ ap
     (hearing c.args.number 0) c.deref-3.ensures.value in
     let woken : c.woken_by.result ≡ count_by (is_woken_by c.args.number) items = c.woken_by.ensures ∙ ap
     (count_by (is_woken_by c.args.number)) c.deref.ensures.value in
@@ -57,7 +56,7 @@ pub returns-clause-ok : goal.returns-clause-ok
 returns-clause-ok c =
     let items = c.self.inside.events.items in
     let next = c.self.inside.ready.next in
-    let numbers : c.deref-4.result.now ≡ hearing c.args.number 0 items = c.deref-4.ensures.value ∙ c.in_ok-numbers.ensures ∙ ap
+    let numbers : c.deref-4.result.now ≡ hearing c.args.number 0 items = c.deref-4.ensures.value ∙ c.in_ok-numbers.ensures.list ∙ ap
     (hearing c.args.number 0) c.deref-3.ensures.value in
     let woken : c.woken_by.result ≡ count_by (is_woken_by c.args.number) items = c.woken_by.ensures ∙ ap
     (count_by (is_woken_by c.args.number)) c.deref.ensures.value in
