@@ -16,7 +16,7 @@ use Rattle.event_base.specs.Fires.{is_set_again}
 use Rattle.event_base.specs.Turns.{is_due, next_event}
 use Rattle.event_base.specs.Rousing.{event_of, wakers}
 use Rattle.event_base.specs.Tied.{moment_of, moment_at as mom}
-use Rattle.event_base.specs.Calls.{sets_again}
+use Rattle.event_base.specs.SetsAgain.{sets_again}
 use Rattle.event_base.proofs.CallLemmas.{next_call-event}
 
 -- where events become active there are numbers of events

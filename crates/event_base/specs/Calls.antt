@@ -127,10 +127,6 @@ call b number e a =
 abbrev pub next_call : BaseValue → Option ℕ
 next_call b = if b.broken then None else next_event b
 
--- does the start of the next callback set a timeout again
-abbrev pub sets_again : BaseValue → Bool
-sets_again b = option_map_or (λ number. option_map_or is_set_again (slice_get b.events number) false) (next_call b) false
-
 -- the event that fires next and its flags, where there is one
 abbrev pub next_fire : BaseValue → Option (ℕ × ℕ)
 next_fire b = option_map_or (λ number.

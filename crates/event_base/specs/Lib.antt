@@ -9,6 +9,7 @@ pub mod Turns
 pub mod Fires
 pub mod Faults
 pub mod Calls
+pub mod SetsAgain
 pub mod Freeing
 pub mod Delays
 pub mod CallsInARow

@@ -11,7 +11,8 @@ use Rattle.event_base.specs.Ready.{IsNext}
 use Rattle.event_base.specs.Tied.{AreKept}
 use Rattle.std.proofs.lemmas.Result.{err_from_is_err_and}
 use Rattle.event_base.specs.Turns.{next_event}
-use Rattle.event_base.specs.Calls.{IsAnswer, next_active, sets_again}
+use Rattle.event_base.specs.Calls.{IsAnswer, next_active}
+use Rattle.event_base.specs.SetsAgain.{sets_again}
 use Rattle.event_base.specs.Fires.{is_past_numbers}
 use Rattle.event_base.proofs.TiedLemmas.{slice_get-within, slice_get-get_or}
 use Rattle.event_base.proofs.FireLemmas.{next_event-is, next-there}
