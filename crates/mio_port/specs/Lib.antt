@@ -16,3 +16,4 @@ pub mod EndAnswers
 pub mod EndLeft
 pub mod PortCalls
 pub mod PollLeft
+pub mod Kernels

@@ -1,6 +1,6 @@
 -- What each call of the port says beyond what every port says: which ends stand where, and what is answered for one that
 -- isn't there.
-use Rattle.std.specs.Prelude.{◌≡◌, ◌≢◌, ◌⊎◌, ℕ, ◌+◌, ◌*◌, ⊤, Bool, true, false, ◌&&◌, List, map, Option, Some, None, Result, Ok}
+use Rattle.std.specs.Prelude.{◌≡◌, ◌≢◌, ◌⊎◌, ℕ, ◌+◌, ◌-◌, ◌*◌, ◌^◌, ⊤, Bool, true, false, ◌&&◌, List, [], ◌∷◌, map, Option, Some, None, Result, Ok}
 use Rattle.std.specs.Prelude.{Err, MatchOption, slice_index_or}
 use Rattle.ev_types.specs.declared.addr.Addr.{Addr}
 use Rattle.ev_port.specs.declared.port.Accepted.{Accepted}
@@ -11,18 +11,24 @@ use Rattle.ev_port.specs.declared.port.Started.{Started}
 use Rattle.ev_port.specs.declared.port.Started.TheVariants as started
 use Rattle.ev_port.specs.declared.port.Want.{Want}
 use Rattle.mio_port.specs.declared.acceptor.Acceptor.{Acceptor}
+use Rattle.mio_port.specs.declared.acceptor.Listener.{Listener}
 use Rattle.mio_port.specs.declared.acceptor.NoLink.{NoLink}
 use Rattle.mio_port.specs.declared.acceptor.NoLink.TheVariants as no_link
 use Rattle.mio_port.specs.declared.end.End.{End}
+use Rattle.mio_port.specs.declared.socket_call.SocketCall.TheVariants as call
 use Rattle.mio_port.specs.Acceptor.{addr_of, is_open, faulty_acceptor, paused_acceptor}
 use Rattle.mio_port.specs.EndPlaces.{PlacesStay, holds, marked, unmarked}
 
 -- Starting
 
+-- a listener at this address, which is reported under the number that no end has; nothing else was asked of it
+abbrev pub ListensAt : Addr → Listener → Type 0
+ListensAt at l = (addr_of l.at ≡ Some at) × (l.log.calls ≡ (call.Watched (2 ^ 64 - 1), []) ∷ [])
+
 -- a port that was started listens at the address that it was given, and has the target; any other listens nowhere
 abbrev pub Listens : Acceptor → Addr → Addr → Started → Type 0
 Listens d at to started.Started =
-    MatchOption d.listener ⊥ (λ listener. addr_of listener.at ≡ Some at) × MatchOption d.target ⊥ (λ target. addr_of target ≡ Some to)
+    MatchOption d.listener ⊥ (ListensAt at) × MatchOption d.target ⊥ (λ target. addr_of target ≡ Some to)
 Listens d at to started.Failed = d.listener ≡ None
 Listens d at to started.NoMemory = d.listener ≡ None
 

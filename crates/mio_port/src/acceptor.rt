@@ -5,21 +5,24 @@ ghost use Rattle.mio_port.specs.Scarcity.{is_scarce};
 ghost use Rattle.mio_port.specs.Acceptor.{no_link_of_kind, addr_of, shut_acceptor, opened_acceptor, is_open, after_time, faulty_acceptor};
 
 use crate::scarce::is_scarce;
-use crate::socket::Socket;
+use crate::socket::{Socket, plain};
 use crate::socket_call::SocketCall;
+use crate::socket_log::SocketLog;
 use ev_port::Addr;
 use mio::net::TcpListener;
+use mio::{Interest, Registry, Token};
 use std::io;
 use std::io::ErrorKind;
 use std::net::{Ipv4Addr, Net, SocketAddr};
 
-/// A listener, and the address that it was told to listen at.
+/// A listener, the address that it was told to listen at, and what else the system was asked of it.
 ///
 /// Own.
 #[derive(Drop)]
 pub(crate) struct Listener {
-    pub(crate) socket: TcpListener,
+    socket: TcpListener,
     at: SocketAddr,
+    log: SocketLog,
 }
 
 /// The listener and the target of its links. It is ready once the kernel told that a link waits, and until an accept finds
@@ -80,12 +83,23 @@ pub(crate) fn addr_of(addr: SocketAddr) -> Option<Addr>
 impl Listener {
     /// One that listens at this address.
     pub(crate) fn bind<R: Net>(rt: &R, at: SocketAddr) -> io::Result<Listener>
-        ensures { IfOk result (λ made. made.at ≡ at) }
+        ensures at { IfOk result (λ made. made.at ≡ at) }
+        ensures log { IfOk result (λ made. made.log.calls ≡ []) }
     {
         Ok(Listener {
             socket: TcpListener::bind(rt, at)?,
             at,
+            log: SocketLog::new(),
         })
+    }
+
+    /// Has it reported under this number where a link waits.
+    pub(crate) fn watch(&mut self, registry: &Registry, number: usize) -> io::Result<()>
+        ensures at { self.new.at ≡ self.old.at }
+        ensures told { self.new.log.calls ≡ (SocketCall.Watched number, []) ∷ self.old.log.calls }
+    {
+        self.log = self.log.then(&plain(SocketCall::Watched(number)));
+        registry.register(&mut self.socket, Token(number), Interest::READABLE)
     }
 }
 

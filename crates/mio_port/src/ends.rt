@@ -1,6 +1,6 @@
 // The ends of all links, by their numbers, and the numbers of those that are ready. An end stays once it is made, and its
 // count of faults with it.
-ghost use Rattle.std.specs.Prelude.{◌≡◌, ◌<◌, ◌≤◌, ◌==◌, ◌+◌, ◌*◌, ℕ, [], None, Some, length, map, filter, slice_index_or, vec_len, OnOk};
+ghost use Rattle.std.specs.Prelude.{◌≡◌, ◌<◌, ◌≤◌, ◌==◌, ◌+◌, ◌*◌, ℕ, [], None, Some, length, map, filter, slice_index_or, vec_len, IsOk, OnOk};
 ghost use Rattle.std.specs.Prelude.{false, true, not, ◌&&◌, option_map, if◌then◌else◌};
 ghost use Rattle.std.specs.List.{list_any};
 ghost use Rattle.ev_port.specs.FaultCounts.{Counted};
@@ -211,6 +211,7 @@ impl Ends {
     pub(crate) fn make_room(&mut self, link: u32) -> Result<(), AllocError>
         ensures places { PlacesStay self.old.ends.items self.new.ends.items }
         ensures room { OnOk result (2 * link + 1 < length self.new.ends.items) }
+        ensures already { 2 * link + 1 < length self.old.ends.items → IsOk result }
     {
         let needed = out_end(link).number() + 1;
         let missing = needed.saturating_sub(self.ends.len());

@@ -1,5 +1,5 @@
 // The kernel's reports: what is watched, how often it is asked, and what it told.
-ghost use Rattle.std.specs.Prelude.{◌≡◌, ◌<◌, ◌∷◌, [], true, false, is_some, IfOk, OnOk};
+ghost use Rattle.std.specs.Prelude.{◌≡◌, ◌<◌, ◌-◌, ◌^◌, ◌∷◌, [], true, false, is_some, IfOk, OnOk};
 ghost use Rattle.mio_port.specs.OneEnd.{fresh};
 ghost use Rattle.mio_port.specs.EndLeft.{AllHeard};
 ghost use Rattle.mio_port.specs.EndPlaces.{CountsStay};
@@ -14,7 +14,7 @@ use crate::ends::Ends;
 use crate::scarce::is_scarce;
 use crate::socket::Socket;
 use crate::socket_call::SocketCall;
-use mio::{Events, Interest, Poll, Registry, Token};
+use mio::{Events, Poll, Registry, Token};
 use std::alloc::{AllocGlobal, Global};
 use std::io;
 use std::net::{Net, SocketAddr};
@@ -58,12 +58,11 @@ impl Kernel {
 
     /// A listener at this address that is watched.
     pub(crate) fn listen<R: Net>(&self, rt: &R, at: SocketAddr) -> io::Result<Listener>
-        ensures { IfOk result (λ listener. listener.at ≡ at) }
+        ensures at { IfOk result (λ listener. listener.at ≡ at) }
+        ensures watched { IfOk result (λ listener. listener.log.calls ≡ (SocketCall.Watched (2 ^ 64 - 1), []) ∷ []) }
     {
         let mut listener = Listener::bind(rt, at)?;
-        self.poll
-            .registry()
-            .register(&mut listener.socket, LISTENER, Interest::READABLE)?;
+        listener.watch(self.poll.registry(), LISTENER.0)?;
         Ok(listener)
     }
 
@@ -78,7 +77,11 @@ impl Kernel {
 
     /// Sees that a descriptor is kept. It fails where the system has none.
     pub(crate) fn keep_spare(&mut self) -> io::Result<()>
-        ensures { OnOk result (is_some self.new.spare ≡ true) }
+        ensures spare { OnOk result (is_some self.new.spare ≡ true) }
+        ensures poll { self.new.poll ≡ self.old.poll }
+        ensures skipped { self.new.skipped ≡ self.old.skipped }
+        ensures most { self.new.most ≡ self.old.most }
+        ensures kept { is_some self.old.spare ≡ true → self.new.spare ≡ self.old.spare }
     {
         if self.spare.is_none() {
             self.spare = Some(self.poll.registry().try_clone()?);
@@ -88,7 +91,10 @@ impl Kernel {
 
     /// Sees that there are descriptors for the two ends of a link, of which one is kept. It fails where the system has fewer.
     pub(crate) fn keep_room(&mut self) -> io::Result<()>
-        ensures { OnOk result (is_some self.new.spare ≡ true) }
+        ensures spare { OnOk result (is_some self.new.spare ≡ true) }
+        ensures poll { self.new.poll ≡ self.old.poll }
+        ensures skipped { self.new.skipped ≡ self.old.skipped }
+        ensures most { self.new.most ≡ self.old.most }
     {
         self.keep_spare()?;
         let _room_for_the_first = self.poll.registry().try_clone()?;
@@ -97,7 +103,10 @@ impl Kernel {
 
     /// Begins a connection, by the descriptor that is kept where there is no other.
     pub(crate) fn connect<R: Net>(&mut self, rt: &R, to: SocketAddr) -> io::Result<Socket>
-        ensures { IfOk result (λ socket. socket.log.calls ≡ (SocketCall.Began to, []) ∷ []) }
+        ensures begun { IfOk result (λ socket. socket.log.calls ≡ (SocketCall.Began to, []) ∷ []) }
+        ensures poll { self.new.poll ≡ self.old.poll }
+        ensures skipped { self.new.skipped ≡ self.old.skipped }
+        ensures most { self.new.most ≡ self.old.most }
     {
         match Socket::begun(rt, to) {
             Err(error) if is_scarce(&error) => {
@@ -112,7 +121,9 @@ impl Kernel {
     pub(crate) fn is_due(&mut self) -> bool
         ensures due { result ≡ is_due self.old.skipped }
         ensures counted { self.new.skipped ≡ looks_after self.old.skipped }
-        ensures same { self.new.most ≡ self.old.most }
+        ensures poll { self.new.poll ≡ self.old.poll }
+        ensures most { self.new.most ≡ self.old.most }
+        ensures spare { self.new.spare ≡ self.old.spare }
     {
         self.skipped = (self.skipped + 1) % LOOK_EVERY;
         self.skipped == 0
@@ -122,6 +133,7 @@ impl Kernel {
     pub(crate) fn wait(&mut self, timeout: Option<u64>) -> io::Result<()>
         ensures skipped { self.new.skipped ≡ 0 }
         ensures most { self.new.most ≡ timeout }
+        ensures spare { self.new.spare ≡ self.old.spare }
     {
         self.skipped = 0;
         self.most = timeout;

@@ -1,8 +1,9 @@
 // The port over real sockets. Its parts keep the ends, the listener, the kernel's reports and the clock; here stands what
 // each call of a port does with them, and which count of faults it raises.
-ghost use Rattle.std.specs.Prelude.{◌≡◌, ◌<◌, ◌≤◌, ⊤, [], true, false, length, is_none, None, MatchResult};
+ghost use Rattle.std.specs.Prelude.{◌≡◌, ◌≢◌, ◌<◌, ◌≤◌, ◌+◌, ◌*◌, ⊤, [], true, false, length, is_none, is_some, None, Some, MatchResult, OnOk};
 ghost use Rattle.std.specs.List.{list_any};
 ghost use Rattle.ev_types.specs.Sides.{number};
+ghost use Rattle.ev_port.specs.Counting.{risen_if};
 ghost use Rattle.ev_port.specs.Silent.{silent_port, silent_end};
 ghost use Rattle.ev_port.specs.Vouching.{LongerBy, NothingWaits};
 ghost use Rattle.ev_port.specs.EndSteps.{EndsWent, AllWent, PortStays, no_step};
@@ -18,7 +19,8 @@ ghost use Rattle.mio_port.specs.EndAnswers.{connection_at, ReadBy, WrittenBy, Ch
 ghost use Rattle.mio_port.specs.Acceptor.{shut_acceptor};
 ghost use Rattle.mio_port.specs.EndLeft.{CheckLeft, NewEnds, PlaceLeft, ReadLeft, WriteLeft};
 ghost use Rattle.mio_port.specs.OneEnd.{ended_end, closed_end};
-ghost use Rattle.mio_port.specs.EndPlaces.{PlacesStay, PlaceWent, wants_ready};
+ghost use Rattle.mio_port.specs.EndPlaces.{PlaceWent, holds, wants_ready};
+ghost use Rattle.mio_port.specs.Kernels.{watch_of, HasSpare};
 ghost use Rattle.mio_port.specs.Asking.{PollLooked};
 ghost use Rattle.mio_port.specs.PollLeft.{PollLeft};
 ghost use Rattle.mio_port.specs.PortCalls.{Listens, Marked, Accepts, MadeLink, AcceptorAsked};
@@ -108,6 +110,17 @@ impl<'a, R: Net + Clock + AllocGlobal> MioPort<'a, R> {
         self.acceptor.local()
     }
 
+    // Takes the kernel that watches the ends, or makes the first one.
+    fn take_kernel(&mut self) -> io::Result<Kernel>
+        ensures same { is_some self.old.kernel ≡ true → MatchResult result (λ kernel. self.old.kernel ≡ Some kernel) (λ _. ⊥) }
+        ensures rest { self.new ≡ record self.old { kernel = self.new.kernel } }
+    {
+        match self.kernel.take() {
+            Some(kernel) => Ok(kernel),
+            None => Kernel::new(self.rt),
+        }
+    }
+
     // A first listener is closed before the second one is made.
     fn listen(&mut self, at: Addr, to: Addr) -> io::Result<()>
         ensures faults { self.new.acceptor.faults ≡ self.old.acceptor.faults }
@@ -119,12 +132,11 @@ impl<'a, R: Net + Clock + AllocGlobal> MioPort<'a, R> {
         ensures unpaused { self.new.acceptor.paused_to ≡ None }
         ensures clock { self.new.clock ≡ self.old.clock }
         ensures turn { self.new.turn ≡ self.old.turn }
+        ensures kernel { is_some self.old.kernel ≡ true → watch_of self.new.kernel ≡ watch_of self.old.kernel }
+        ensures spare { OnOk result (HasSpare self.new.kernel) }
     {
         self.acceptor.shut();
-        let mut kernel = match self.kernel.take() {
-            Some(kernel) => kernel,
-            None => Kernel::new(self.rt)?,
-        };
+        let mut kernel = self.take_kernel()?;
         let listener = kernel.listen(self.rt, socket_addr(at));
         let room = kernel.keep_room();
         self.kernel = Some(kernel);
@@ -182,6 +194,11 @@ impl<'a, R: Net + Clock + AllocGlobal> Port for MioPort<'a, R> {
         ensures stays { self.new.ends ≡ self.old.ends }
         ensures clock { self.new.clock ≡ self.old.clock }
         ensures turn { self.new.turn ≡ self.old.turn }
+
+        // What was watched stays watched, and a spare descriptor is kept.
+        ensures kernel { is_some self.old.kernel ≡ true → watch_of self.new.kernel ≡ watch_of self.old.kernel }
+        ensures spare { result ≡ Started.Started → HasSpare self.new.kernel }
+        ensures counts { self.new.acceptor.faults ≡ risen_if (is_failed_start result) self.old.acceptor.faults }
 
         // What every port says.
         ensures cause { ListenerFaults (mio_faults self.old) (mio_faults self.new) (is_failed_start result) }
@@ -257,6 +274,12 @@ impl<'a, R: Net + Clock + AllocGlobal> Port for MioPort<'a, R> {
         ensures listener { AcceptorAsked self.old.acceptor self.new.acceptor self.new.clock.last result }
         ensures steady { self.old.clock.last ≤ self.new.clock.last }
         ensures turn { self.new.turn ≡ self.old.turn }
+        ensures kernel { watch_of self.new.kernel ≡ watch_of self.old.kernel }
+
+        // Of a link that was accepted before nothing is asked, nor where memory runs out. Where its places are there it does not.
+        ensures held { holds self.old.ends.ends.items link ≡ true → (result ≡ Accepted.NotYet) × (self.new ≡ self.old) }
+        ensures unasked { result ≡ Accepted.NoMemory → self.new ≡ record self.old { ends = self.new.ends } }
+        ensures room { 2 * link + 1 < length self.old.ends.ends.items → result ≢ Accepted.NoMemory }
 
         // What every port says.
         ensures cause { ListenerFaults (mio_faults self.old) (mio_faults self.new) (is_failed_accept result) }

@@ -23,7 +23,7 @@ pub(crate) struct Socket {
 }
 
 // A call that has no bytes.
-fn plain(call: SocketCall) -> CallBytes<'static>
+pub(crate) fn plain(call: SocketCall) -> CallBytes<'static>
     ensures call { result.call ≡ call }
     ensures bytes { result.bytes.now ≡ [] }
 {

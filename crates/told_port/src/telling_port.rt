@@ -1,12 +1,12 @@
 // A port that tells all that it is asked and answers, over one that may tell nothing.
-ghost use Rattle.std.specs.Prelude.{◌≡◌, ◌<◌, true, false, length, []};
+ghost use Rattle.std.specs.Prelude.{◌≡◌, ◌<◌, true, false, length, [], ◌∷◌};
 ghost use Rattle.ev_port.specs.Vouching.{LongerBy, NothingWaits};
 ghost use Rattle.ev_port.specs.EndSteps.{EndsWent, AllWent, PortStays, no_step};
 ghost use Rattle.ev_port.specs.Faults.{FaultsStay, EndFaults, PollFaults, ListenerFaults};
 ghost use Rattle.ev_port.specs.Calls.{Ticked, ClockRead, is_failed_start, StartedAt, is_failed_accept, accept_events, accept_step};
 ghost use Rattle.ev_port.specs.Calls.{AcceptedLink};
 ghost use Rattle.ev_port.specs.Polling.{is_failed_poll, opens_accepting, AllMarked, poll_events, poll_step, PolledWith};
-ghost use Rattle.ev_port.specs.Table.{RowsStay, TablePolled};
+ghost use Rattle.ev_port.specs.Table.{RowsStay, TablePolled, named};
 ghost use Rattle.ev_port.specs.Ends.{is_failed_conn, conn_step, conn_events, ReadWithin, is_failed_read, read_step, read_events};
 ghost use Rattle.ev_port.specs.Ends.{WriteWithin, is_failed_write, write_step, write_events, close_write_events, close_events};
 ghost use Rattle.ev_port.specs.Ends.{close_write_step, close_step};
@@ -73,6 +73,7 @@ impl<P: Port> Port for TellingPort<P> {
     fn start(&mut self, listen: Addr, to: Addr) -> Started
         ensures ends_within { AllWent (P.ends self.old.inner) (P.ends self.new.inner) (λ _. no_step) }
         ensures told_within { StartedAt (P.told self.old.inner) (P.told self.new.inner) listen to }
+        ensures logged { self.new.log.calls ≡ (Call.Start listen to, [], [], []) ∷ self.old.log.calls }
 
         // What every port says.
         ensures cause { ListenerFaults (P.faults self.old.inner) (P.faults self.new.inner) (is_failed_start result) }
@@ -88,6 +89,7 @@ impl<P: Port> Port for TellingPort<P> {
     fn now(&mut self) -> u64
         ensures ends_within { AllWent (P.ends self.old.inner) (P.ends self.new.inner) (λ _. no_step) }
         ensures told_within { ClockRead (P.told self.old.inner) (P.told self.new.inner) result }
+        ensures logged { self.new.log.calls ≡ (Call.Now result, [], [], []) ∷ self.old.log.calls }
 
         // What every port says.
         ensures cause { FaultsStay (P.faults self.old.inner) (P.faults self.new.inner) }
@@ -103,6 +105,7 @@ impl<P: Port> Port for TellingPort<P> {
     fn poll(&mut self, wants: &mut [Want], accept: bool, timeout: Option<u64>) -> Polled
         ensures ends_within { AllWent (P.ends self.old.inner) (P.ends self.new.inner) (poll_step wants.new result) }
         ensures told_within { PolledWith (P.told self.old.inner) (P.told self.new.inner) accept timeout result }
+        ensures logged { self.new.log.calls ≡ (Call.Poll accept timeout result, [], wants.new, wants.new) ∷ self.old.log.calls }
 
         // What every port says.
         ensures marked { AllMarked wants.old wants.new }
@@ -127,6 +130,7 @@ impl<P: Port> Port for TellingPort<P> {
         ensures went_within { TablePolled wants.old wants.new timeout result (P.ends self.old.inner) (P.ends self.new.inner)
             (P.vouches self.old.inner) (P.vouches self.new.inner) }
         ensures told_within { PolledWith (P.told self.old.inner) (P.told self.new.inner) accept timeout result }
+        ensures logged { self.new.log.calls ≡ (Call.Poll accept timeout result, [], named wants.new, wants.new.list) ∷ self.old.log.calls }
 
         // What every port says.
         ensures rows { RowsStay wants.old wants.new }
@@ -149,6 +153,7 @@ impl<P: Port> Port for TellingPort<P> {
     fn accept(&mut self, link: u32) -> Accepted
         ensures ends_within { AllWent (P.ends self.old.inner) (P.ends self.new.inner) (accept_step link result) }
         ensures told_within { AcceptedLink (P.told self.old.inner) (P.told self.new.inner) result }
+        ensures logged { self.new.log.calls ≡ (Call.Accept link result, [], [], []) ∷ self.old.log.calls }
 
         // What every port says.
         ensures cause { ListenerFaults (P.faults self.old.inner) (P.faults self.new.inner) (is_failed_accept result) }
@@ -165,6 +170,7 @@ impl<P: Port> Port for TellingPort<P> {
     fn connect_state(&mut self, end: SideId) -> ConnAnswer
         ensures ends_within { EndsWent (P.ends self.old.inner) (P.ends self.new.inner) end (conn_step result) }
         ensures told_within { PortStays (P.told self.old.inner) (P.told self.new.inner) }
+        ensures logged { self.new.log.calls ≡ (Call.ConnectState end result, [], [], []) ∷ self.old.log.calls }
 
         // What every port says.
         ensures cause { EndFaults (P.faults self.old.inner) (P.faults self.new.inner) end (is_failed_conn result) }
@@ -181,6 +187,7 @@ impl<P: Port> Port for TellingPort<P> {
         requires { 0 < length into.old }
         ensures ends_within { EndsWent (P.ends self.old.inner) (P.ends self.new.inner) end (read_step result into.new) }
         ensures told_within { PortStays (P.told self.old.inner) (P.told self.new.inner) }
+        ensures logged { self.new.log.calls ≡ (Call.Read end result, into.new, [], []) ∷ self.old.log.calls }
 
         // What every port says.
         ensures within { ReadWithin result (length into.new) }
@@ -203,6 +210,7 @@ impl<P: Port> Port for TellingPort<P> {
         requires { 0 < length from.now }
         ensures ends_within { EndsWent (P.ends self.old.inner) (P.ends self.new.inner) end (write_step result from.now) }
         ensures told_within { PortStays (P.told self.old.inner) (P.told self.new.inner) }
+        ensures logged { self.new.log.calls ≡ (Call.Write end result, from.now, [], []) ∷ self.old.log.calls }
 
         // What every port says.
         ensures within { WriteWithin result (length from.now) }
@@ -224,6 +232,7 @@ impl<P: Port> Port for TellingPort<P> {
     fn close_write(&mut self, end: SideId)
         ensures ends_within { EndsWent (P.ends self.old.inner) (P.ends self.new.inner) end close_write_step }
         ensures told_within { PortStays (P.told self.old.inner) (P.told self.new.inner) }
+        ensures logged { self.new.log.calls ≡ (Call.CloseWrite end, [], [], []) ∷ self.old.log.calls }
 
         // What every port says.
         ensures cause { FaultsStay (P.faults self.old.inner) (P.faults self.new.inner) }
@@ -238,6 +247,7 @@ impl<P: Port> Port for TellingPort<P> {
     fn close(&mut self, end: SideId)
         ensures ends_within { EndsWent (P.ends self.old.inner) (P.ends self.new.inner) end close_step }
         ensures told_within { PortStays (P.told self.old.inner) (P.told self.new.inner) }
+        ensures logged { self.new.log.calls ≡ (Call.Close end, [], [], []) ∷ self.old.log.calls }
 
         // What every port says.
         ensures cause { FaultsStay (P.faults self.old.inner) (P.faults self.new.inner) }
@@ -252,6 +262,7 @@ impl<P: Port> Port for TellingPort<P> {
     fn stop_accepting(&mut self)
         ensures ends_within { AllWent (P.ends self.old.inner) (P.ends self.new.inner) (λ _. no_step) }
         ensures told_within { PortStays (P.told self.old.inner) (P.told self.new.inner) }
+        ensures logged { self.new.log.calls ≡ (Call.StopAccepting, [], [], []) ∷ self.old.log.calls }
 
         // What every port says.
         ensures cause { FaultsStay (P.faults self.old.inner) (P.faults self.new.inner) }

@@ -5,6 +5,7 @@ ghost use Rattle.ev_port.specs.Faults.{ListenerFaults};
 ghost use Rattle.ev_port.specs.Calls.{is_failed_accept};
 ghost use Rattle.mio_port.specs.Acceptor.{refused_acceptor, paused_acceptor};
 ghost use Rattle.mio_port.specs.EndLeft.{IsNewOut, IsNewPair};
+ghost use Rattle.mio_port.specs.Kernels.{watch, watch_of};
 ghost use Rattle.mio_port.specs.PortCalls.{HasNoFault, IsNoLink, no_link_answer};
 ghost use Rattle.mio_port.specs.PortFaults.{mio_faults};
 
@@ -27,6 +28,7 @@ impl<R: Net + Clock + AllocGlobal> MioPort<'_, R> {
         ensures faults { self.new.acceptor.faults ≡ self.old.acceptor.faults }
         ensures polling { self.new.polling_faults ≡ self.old.polling_faults }
         ensures paused { self.new.acceptor ≡ paused_acceptor self.old.acceptor self.new.clock.last }
+        ensures kernel { self.new.kernel ≡ self.old.kernel }
         ensures steady { self.old.clock.last ≤ self.new.clock.last }
         ensures ends { self.new.ends ≡ self.old.ends }
         ensures turn { self.new.turn ≡ self.old.turn }
@@ -43,6 +45,7 @@ impl<R: Net + Clock + AllocGlobal> MioPort<'_, R> {
         ensures ends { self.new.ends ≡ self.old.ends }
         ensures turn { self.new.turn ≡ self.old.turn }
         ensures acceptor { self.new.acceptor ≡ self.old.acceptor }
+        ensures kernel { watch_of self.new.kernel ≡ watch_of self.old.kernel }
         ensures polling { self.new.polling_faults ≡ self.old.polling_faults }
     {
         let Some(kernel) = &mut self.kernel else {
@@ -68,6 +71,7 @@ impl<R: Net + Clock + AllocGlobal> MioPort<'_, R> {
         ensures none { IsNoLink result }
         ensures answer { result ≡ no_link_answer why }
         ensures listener { self.new.acceptor ≡ refused_acceptor self.old.acceptor why self.new.clock.last }
+        ensures kernel { self.new.kernel ≡ self.old.kernel }
         ensures steady { self.old.clock.last ≤ self.new.clock.last }
         ensures ends { self.new.ends ≡ self.old.ends }
         ensures turn { self.new.turn ≡ self.old.turn }
@@ -89,6 +93,7 @@ impl<R: Net + Clock + AllocGlobal> MioPort<'_, R> {
 fn outside<R: Net>(rt: &R, kernel: &mut Kernel, target: Option<SocketAddr>, number: usize) -> End
     ensures faultless { result.faults ≡ 0 }
     ensures made { IsNewOut number target result }
+    ensures rest { watch kernel.new ≡ watch kernel.old }
 {
     let Some(target) = target else {
         return End::refused();
