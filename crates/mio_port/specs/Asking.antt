@@ -13,12 +13,14 @@ use Rattle.mio_port.specs.Waiting.{looks_after, is_due, longest_wait}
 
 -- the kernel was not asked: a poll more went by, its watch stays, and nothing was told
 pub record WasPassed (was : Kernel) (now_kernel : Option Kernel) (old new : List (Option End)) (ready now_ready worked : Bool) : Type 0 where
-  pub kernel : IsSomeAnd now_kernel (λ k. (k.poll ≡ was.poll) × (k.skipped ≡ looks_after was.skipped) × (k.most ≡ was.most) × (k.spare ≡ was.spare))
+  pub kernel : IsSomeAnd now_kernel (λ k. (k.poll ≡ was.poll) × (k.skipped ≡ looks_after was.skipped) × (k.most ≡ was.most)
+      × (k.spare ≡ was.spare))
   pub ends : new ≡ old
   pub listener : now_ready ≡ ready
   pub succeeded : worked ≡ true
 
--- it was asked, for at most so long; where that worked its reports tell what is new, and else nothing is. The descriptor that is kept stays.
+-- It was asked, for at most so long; where that worked its reports tell what is new, and else nothing is. The descriptor that is kept
+-- stays.
 pub record WasAsked (longest : Option ℕ) (was kernel : Kernel) (old new : List (Option End)) (ready now_ready worked : Bool) : Type 0 where
   pub skipped : kernel.skipped ≡ 0
   pub most : kernel.most ≡ longest
@@ -29,7 +31,8 @@ pub record WasAsked (longest : Option ℕ) (was kernel : Kernel) (old new : List
 -- the kernel was passed by, or was asked
 abbrev pub PassedOrAsked : Bool → Option ℕ → Kernel → Option Kernel → List (Option End) → List (Option End) → Bool → Bool → Bool → Type 0
 PassedOrAsked true most was now_kernel old new ready now_ready worked = WasPassed was now_kernel old new ready now_ready worked
-PassedOrAsked false most was now_kernel old new ready now_ready worked = IsSomeAnd now_kernel (λ k. WasAsked most was k old new ready now_ready worked)
+PassedOrAsked false most was now_kernel old new ready now_ready worked =
+    IsSomeAnd now_kernel (λ k. WasAsked most was k old new ready now_ready worked)
 
 -- It is asked where nothing that is asked for is ready, and at each 16th poll where something is. Before the first start there is none.
 abbrev pub Looked : Bool → Option ℕ → Option Kernel → Option Kernel → List (Option End) → List (Option End) → Bool → Bool → Bool → Type 0

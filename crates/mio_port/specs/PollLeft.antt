@@ -8,8 +8,8 @@ use Rattle.mio_port.specs.declared.mio_port.MioPort.{MioPort}
 use Rattle.mio_port.specs.Acceptor.{AcceptorHeard}
 use Rattle.mio_port.specs.EndLeft.{AllHeard}
 
--- It takes nothing from an end and from the listener, but ends a pause that is over. It fails before the first start, and its count rises by
--- one where it fails.
+-- It takes nothing from an end and from the listener, but ends a pause that is over. It fails before the first start, and its count
+-- rises by one where it fails.
 pub record PollLeft {R : Type 0} (old new : MioPort R) (answer : Polled) : Type 0 where
   pub ends : AllHeard old.ends.ends.items new.ends.ends.items
   pub listener : AcceptorHeard old.acceptor new.acceptor new.clock.last

@@ -1,7 +1,7 @@
 // The ends of all links, by their numbers, and the numbers of those that are ready. An end stays once it is made, and its
 // count of faults with it.
-ghost use Rattle.std.specs.Prelude.{◌≡◌, ◌<◌, ◌≤◌, ◌==◌, ◌+◌, ◌*◌, ℕ, [], None, Some, length, map, filter, slice_index_or, vec_len, IsOk, OnOk};
-ghost use Rattle.std.specs.Prelude.{false, true, not, ◌&&◌, option_map, if◌then◌else◌};
+ghost use Rattle.std.specs.Prelude.{◌≡◌, ◌<◌, ◌≤◌, ◌==◌, ◌+◌, ◌*◌, ℕ, [], None, Some, length, map, filter, slice_index_or, vec_len};
+ghost use Rattle.std.specs.Prelude.{false, true, not, ◌&&◌, option_map, if◌then◌else◌, IsOk, OnOk};
 ghost use Rattle.std.specs.List.{list_any};
 ghost use Rattle.ev_port.specs.FaultCounts.{Counted};
 ghost use Rattle.ev_port.specs.Table.{RowsStay, is_marked, named};
