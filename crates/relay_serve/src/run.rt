@@ -1,5 +1,5 @@
 // A run over a port: it is started once, and turns are made until all links were opened and none is open, or a hook stops one.
-ghost use Rattle.std.specs.Prelude.{◌≡◌, ◌≢◌, ◌||◌, not};
+ghost use Rattle.std.specs.Prelude.{◌≡◌, ◌≢◌, ◌||◌, not, true};
 ghost use Rattle.ev_types.specs.declared.status.Status.TheVariants.{WriteFault};
 ghost use Rattle.relay_drive.specs.Seats.{telling, seated_sides, AreFresh, AreSeated};
 ghost use Rattle.relay_serve.specs.Seen.{seen, drained};
@@ -35,6 +35,10 @@ fn is_served_out(settings: &Settings, drive: &Drive) -> bool
 fn stop_accepting<P: Port>(accepts: bool, told: &mut bool, port: &mut P)
     ensures told { told.new ≡ (told.old || not accepts) }
     ensures rests { PortRests P.Port port.old port.new }
+
+    // Only where that is so, and once.
+    ensures later { accepts ≡ true → port.new ≡ port.old }
+    ensures once { told.old ≡ true → port.new ≡ port.old }
 {
     if !accepts && !*told {
         port.stop_accepting();
