@@ -1,9 +1,11 @@
 -- What the log takes of an entry, and with which settings the relay runs.
-use Rattle.std.specs.Prelude.{◌≡◌, ◌⊎◌, ℕ, List, []}
+use Rattle.std.specs.Prelude.{◌≡◌, ◌≢◌, ◌⊎◌, ℕ, List, []}
 use Rattle.ev_types.specs.declared.entry.Entry.{Entry}
 use Rattle.ev_types.specs.declared.entry.Entry.TheVariants as entry
 use Rattle.ev_types.specs.declared.route.Route.{Route}
 use Rattle.ev_types.specs.declared.settings.Timeouts.{Timeouts}
+use Rattle.ev_types.specs.declared.status.Status.{Status}
+use Rattle.ev_types.specs.declared.status.Status.TheVariants as status
 use Rattle.ev_port.specs.declared.stream.Sink as sink
 use Rattle.ev_port.specs.FaultCounts.{Rose}
 use Rattle.ev_port.specs.StreamBytes.{TookOn}
@@ -29,3 +31,11 @@ patience = record { read_ms = 60000; write_ms = 60000 }
 -- the way of the words, with these timeouts
 abbrev pub patient : Route → Route
 patient route = record route { settings = record route.settings { in_timeouts = patience; out_timeouts = patience } }
+
+-- Words that are not in the grammar leave all as it was. Nothing was written of a report where memory ran out, and its sink failed only
+-- where the program ends for that.
+abbrev pub LeavesBy : {P L K : Type 0} → sink.Ghosts K → Status → P → P → L → L → K → K → Type 0
+LeavesBy g ended from to log left old new =
+    (ended ≡ status.Usage → (to ≡ from) × (left ≡ log) × (new ≡ old))
+    × (ended ≡ status.Memory → new ≡ old)
+    × (ended ≢ status.WriteFault → g.faults new ≡ g.faults old)

@@ -66,7 +66,7 @@ impl<K: Sink + Drop> EndLog<K> {
 
 /// It tells the trace, and has room for every number of entries and bytes that can be asked for.
 impl<K: Sink + Drop> Scribe for EndLog<K> {
-    ghost use Rattle.std.specs.Prelude.{◌^◌, ◌+◌, Some, length, OnOk};
+    ghost use Rattle.std.specs.Prelude.{◌^◌, ◌+◌, Some, length, IsOk, OnOk};
 
     ghost trace = { λ l. Some l.told.trace };
 
@@ -75,6 +75,7 @@ impl<K: Sink + Drop> Scribe for EndLog<K> {
     ghost spare_bytes = { λ _. 2 ^ 64 };
 
     fn reserve(&mut self, entries: usize, bytes: usize) -> Result<(), NoMemory>
+        ensures ok { IsOk result }
         ensures same { self.new ≡ self.old }
 
         // What every scribe says.

@@ -3,7 +3,7 @@ ghost use Rattle.std.specs.Prelude.{◌≡◌, [], map, string_bytes, option_map
 ghost use Rattle.command_words.specs.ServeGrammar.{serve_words_of};
 ghost use Rattle.relay_serve.specs.Seen.{seen, drained};
 ghost use Rattle.relay_serve.specs.Served.{DidWith};
-ghost use Rattle.logging_relay.specs.EndLines.{patience, patient};
+ghost use Rattle.logging_relay.specs.EndLines.{patience, patient, LeavesBy};
 
 use crate::end_log::EndLog;
 use command_words::serve_words;
@@ -55,6 +55,7 @@ pub fn relay_logged<R: Wait, P: Port, K: Sink, E: Sink + Drop>(
     ensures did { DidWith (option_map patient (serve_words_of (map string_bytes words.now))) [] result
         (seen P.Port ⟦<EndLog<E> as Scribe>⟧ (port.old, log.old)) (seen P.Port ⟦<EndLog<E> as Scribe>⟧ (port.new, log.new))
         (drained K.Sink sink.old) (drained K.Sink sink.new) }
+    ensures leaves { LeavesBy K.Sink result port.old port.new log.old log.new sink.old sink.new }
 {
     match serve_words(alloc, words) {
         Ok(route) => relay(rt, alloc, &patient(route), Vec::new(alloc), port, log, sink),

@@ -5,8 +5,6 @@ use Rattle.logging_relay.specs.EndLines.{patient}
 use Rattle.logging_relay.proofs.relaying.relay_logged.Goals as goal
 
 -- The words are not in the grammar, or memory ran out.
-pub returns-in-Err : goal.returns-in-Err
-returns-in-Err g c = record {
-  did = rw c.status.ensures
-      (words-ended _ [] c.in-Err.fault _ _ (λ usage. ap (λ o. option_map patient o) (c.in-Err.ensures.refused usage)));
-}
+pub returns-in-Err-clause-did : goal.returns-in-Err-clause-did
+returns-in-Err-clause-did g c = rw c.status.ensures
+    (words-ended _ [] c.in-Err.fault _ _ (λ usage. ap (λ o. option_map patient o) (c.in-Err.ensures.refused usage)))
