@@ -9,10 +9,11 @@ pub record Held : Type 0 where
   pub bytes : List ℕ
   pub spare : ℕ
 
--- Whether it is live, what is enabled, what was met, the marks, the timeouts and the moments of last activity in
--- milliseconds, the references, and the two buffers.
+-- Whether it is live, whether a buffer may lie in several chunks, what is enabled, what was met, the marks, the timeouts and the
+-- moments of last activity in milliseconds, the references, and the two buffers.
 pub record BevValue : Type 0 where
   pub live : Bool
+  pub chunked : Bool
   pub reading : Bool
   pub writing : Bool
   pub ended : Bool
@@ -33,10 +34,11 @@ pub record BevValue : Type 0 where
 abbrev pub nothing : Held
 nothing = record { bytes = []; spare = 0 }
 
--- a new one: live, writing enabled and reading not, with no marks and no timeouts
+-- a new one, each of whose buffers lies in one piece: live, writing enabled and reading not, with no marks and no timeouts
 abbrev pub new_bev : BevValue
 new_bev = record {
   live = true;
+  chunked = false;
   reading = false;
   writing = true;
   ended = false;
@@ -53,6 +55,10 @@ new_bev = record {
   input = nothing;
   output = nothing;
 }
+
+-- a new one whose buffers may lie in several chunks, or not
+abbrev pub new_chunked : Bool → BevValue
+new_chunked chunked = record new_bev { chunked = chunked }
 
 -- the input is at least as long as the read low mark, or the output at most as long as the write low mark
 abbrev pub reaches_low : BevValue → Dir → Bool

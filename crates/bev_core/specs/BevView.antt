@@ -5,6 +5,7 @@ use Rattle.bev_core.specs.declared.bev.Bev.TheInside.{Inside}
 abbrev pub bev_value : Inside → BevValue
 bev_value bev = record {
   live = bev.live;
+  chunked = bev.chunked;
   reading = bev.reading;
   writing = bev.writing;
   ended = bev.ended;

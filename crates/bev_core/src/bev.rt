@@ -8,7 +8,7 @@
 ghost use Rattle.std.specs.Prelude.{◌≡◌, ◌≤◌, ◌<◌, ◌+◌, ◌-◌, ◌^◌, ◌++◌, ◌==◌, [], length, drop, take, min, true, false, None, OnOk, OnErr};
 ghost use Rattle.std.specs.Prelude.{IfOk, if◌then◌else◌};
 ghost use Rattle.byte_queue.specs.MemoryAnswers.{AnswersOr, fault_of};
-ghost use Rattle.bev_core.specs.BevValue.{new_bev, state_of, reaches_low};
+ghost use Rattle.bev_core.specs.BevValue.{new_bev, new_chunked, state_of, reaches_low};
 ghost use Rattle.bev_core.specs.Refusals.{live_refusal, length_refusal, write_refusal, feed_refusal, incref_refusal, decref_refusal};
 ghost use Rattle.bev_core.specs.Steps.{held, with_held, with_enabled, with_marks, with_timeouts, touched, freed, more, less, given_up};
 ghost use Rattle.bev_core.specs.Steps.{ended_at, failed_at};
@@ -35,6 +35,7 @@ use token_bucket::Dir;
 #[derive(Drop)]
 pub struct Bev {
     live: bool,
+    chunked: bool,
     reading: bool,
     writing: bool,
     ended: bool,
@@ -80,8 +81,19 @@ impl Bev {
     pub fn fresh(alloc: Global) -> Bev
         ensures { result ≡ new_bev }
     {
+        Bev::made(alloc, false)
+    }
+
+    /// A live bufferevent as `fresh` makes it, but that its buffers may lie in several chunks each where it is said, as evbuffers do: all
+    /// bytes of such a buffer go behind those of another without taking memory. Takes no memory; constant cost.
+    ///
+    /// Libevent: event2/bufferevent.h, `bufferevent_socket_new`; "Bufferevents: concepts and basics".
+    pub fn made(alloc: Global, chunked: bool) -> Bev
+        ensures { result ≡ new_chunked chunked }
+    {
         Bev {
             live: true,
+            chunked,
             reading: false,
             writing: true,
             ended: false,
@@ -299,6 +311,7 @@ impl Bev {
     ///
     /// Own.
     pub fn front(&self, dir: Dir, n: usize) -> &[u8]
+        requires { self.now.chunked ≡ false }
         ensures { result.now ≡ take n (held self.now dir).bytes }
     {
         self.buffer(dir).front(n)

@@ -197,6 +197,17 @@ impl OwnBuffer {
         self.drain(n);
     }
 
+    /// Moves the first n bytes to the end of another, in room that was made before. Takes no memory.
+    pub(crate) fn pour(&mut self, n: usize, to: &mut OwnBuffer)
+        requires there { n ≤ length self.old.bytes }
+        requires room { n ≤ to.old.spare }
+        ensures left { self.new ≡ less self.old n self.new.spare }
+        ensures given { to.new ≡ more to.old (take n self.old.bytes) (to.old.spare - n) }
+    {
+        to.feed_reserved(self.front(n));
+        self.drain(n);
+    }
+
     // Whether so many more bytes leave a length that fits a usize.
     fn fits(&self, n: usize) -> Result<(), BevFault>
         ensures answer { fault_of result ≡ length_refusal self.now n }

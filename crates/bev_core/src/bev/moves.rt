@@ -1,10 +1,10 @@
 // Bytes that go from a buffer of one bufferevent to a buffer of another: they pass to that of the same direction, or cross to that of
 // the other one.
-ghost use Rattle.std.specs.Prelude.{◌≡◌, ◌≤◌, [], length, min, None, OnOk, OnErr, IfOk};
+ghost use Rattle.std.specs.Prelude.{◌≡◌, ◌≤◌, [], length, min, take, None, OnOk, OnErr, IfOk};
 ghost use Rattle.byte_queue.specs.MemoryAnswers.{AnswersOr, fault_of};
 ghost use Rattle.bev_core.specs.Moves.{GoesInto, BytesGo, opposite};
 ghost use Rattle.bev_core.specs.Refusals.{length_refusal};
-ghost use Rattle.bev_core.specs.Steps.{held, with_held};
+ghost use Rattle.bev_core.specs.Steps.{held, with_held, less, fed_reserved};
 ghost use Rattle.bev_core.specs.declared.fault.BevFault.TheVariants.{Memory};
 
 use super::Bev;
@@ -25,8 +25,9 @@ impl Bev {
         ensures ok { OnOk result (BytesGo n dir dir self.old to.old self.new to.new) }
         ensures err { OnErr result (self.new ≡ self.old) }
         ensures to_err { OnErr result (to.new ≡ to.old) }
-        ensures exchanged { length (held self.old dir).bytes ≤ n → (held to.old dir).bytes ≡ [] → fault_of result ≡ None }
-        ensures there { GoesInto n (held self.old dir) (held to.old dir) → fault_of result ≡ None }
+        ensures exchanged { length (held self.old dir).bytes ≤ n → (held to.old dir).bytes ≡ [] →
+            self.old.chunked ≡ to.old.chunked → fault_of result ≡ None }
+        ensures there { GoesInto n (held self.old dir) (held to.old dir) → self.old.chunked ≡ to.old.chunked → fault_of result ≡ None }
     {
         match dir {
             Dir::Read => self.input.move_front(n, &mut to.input),
@@ -43,8 +44,10 @@ impl Bev {
         ensures ok { OnOk result (BytesGo n dir (opposite dir) self.old to.old self.new to.new) }
         ensures err { OnErr result (self.new ≡ self.old) }
         ensures to_err { OnErr result (to.new ≡ to.old) }
-        ensures exchanged { length (held self.old dir).bytes ≤ n → (held to.old (opposite dir)).bytes ≡ [] → fault_of result ≡ None }
-        ensures there { GoesInto n (held self.old dir) (held to.old (opposite dir)) → fault_of result ≡ None }
+        ensures exchanged { length (held self.old dir).bytes ≤ n → (held to.old (opposite dir)).bytes ≡ [] →
+            self.old.chunked ≡ to.old.chunked → fault_of result ≡ None }
+        ensures there { GoesInto n (held self.old dir) (held to.old (opposite dir)) → self.old.chunked ≡ to.old.chunked →
+            fault_of result ≡ None }
     {
         match dir {
             Dir::Read => self.input.move_front(n, &mut to.output),
@@ -57,7 +60,8 @@ impl Bev {
     ///
     /// Own.
     pub fn pass_in_room(&mut self, dir: Dir, to: &mut Bev, n: usize)
-        requires { GoesInto n (held self.old dir) (held to.old dir) }
+        requires alike { self.old.chunked ≡ to.old.chunked }
+        requires room { GoesInto n (held self.old dir) (held to.old dir) }
         ensures { BytesGo n dir dir self.old to.old self.new to.new }
     {
         match dir {
@@ -66,11 +70,28 @@ impl Bev {
         }
     }
 
+    /// Moves the first n bytes of the output to the end of another's input, or those of the input to the end of its output, in room that
+    /// was made before, and keeps that room. Takes no memory, and is never refused. Linear in n.
+    ///
+    /// Own.
+    pub fn pour(&mut self, dir: Dir, to: &mut Bev, n: usize)
+        requires there { n ≤ length (held self.old dir).bytes }
+        requires room { n ≤ (held to.old (opposite dir)).spare }
+        ensures left { self.new ≡ with_held self.old dir (less (held self.old dir) n (held self.new dir).spare) }
+        ensures given { to.new ≡ fed_reserved to.old (opposite dir) (take n (held self.old dir).bytes) }
+    {
+        match dir {
+            Dir::Read => self.input.pour(n, &mut to.output),
+            Dir::Write => self.output.pour(n, &mut to.input),
+        }
+    }
+
     /// Exchanges the input with another's output, or the output with its input, bytes and room. Whether either is live, its flags and
     /// its marks are not looked at. Takes no memory; constant cost.
     ///
     /// Own.
     pub fn swap_across(&mut self, dir: Dir, to: &mut Bev)
+        requires { self.old.chunked ≡ to.old.chunked }
         ensures own { self.new ≡ with_held self.old dir (held to.old (opposite dir)) }
         ensures other { to.new ≡ with_held to.old (opposite dir) (held self.old dir) }
     {

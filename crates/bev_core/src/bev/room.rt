@@ -1,5 +1,5 @@
 // Room that is made in a buffer before, and bytes that come into it.
-ghost use Rattle.std.specs.Prelude.{◌≡◌, ◌≤◌, ◌+◌, length, max, OnOk, OnErr, IsOk};
+ghost use Rattle.std.specs.Prelude.{◌≡◌, ◌≤◌, ◌+◌, length, max, false, OnOk, OnErr, IsOk};
 ghost use Rattle.byte_queue.specs.MemoryAnswers.{AnswersOr, fault_of};
 ghost use Rattle.byte_queue.specs.QueuedBytes.{most_spare};
 ghost use Rattle.bev_core.specs.Refusals.{live_refusal};
@@ -71,7 +71,8 @@ impl Bev {
     ///
     /// Own.
     pub fn feed_with_spare(&mut self, bytes: &[u8], spare: &mut SpareRoom)
-        requires { length self.old.input.bytes + length bytes.now ≤ spare.old }
+        requires one_piece { self.old.chunked ≡ false }
+        requires room { length self.old.input.bytes + length bytes.now ≤ spare.old }
         ensures fed { self.new ≡ record self.old { input = more self.old.input bytes.now self.new.input.spare } }
         ensures most { self.new.input.spare ≤ max spare.old (most_spare self.old.input.spare 0 (length self.old.input.bytes)) }
         ensures kept { length bytes.now ≤ self.old.input.spare → spare.new ≡ spare.old }
