@@ -317,6 +317,13 @@ impl Bev {
         self.buffer(dir).front(n)
     }
 
+    /// Lab only.
+    pub fn all(&self, dir: Dir) -> &[u8]
+        ensures { result.now ≡ (held self.now dir).bytes }
+    {
+        self.buffer(dir).front(self.len(dir))
+    }
+
     /// Copies bytes to the end of the output. Spent comes where the length would not fit a usize. Takes memory only where there is
     /// less room; linear in the length.
     ///

@@ -160,5 +160,5 @@ fn pass_made(
 pub(crate) fn all_of(bev: &Bev, dir: Dir) -> &[u8]
     ensures { result.now ≡ (held bev.now dir).bytes }
 {
-    bev.front(dir, bev.len(dir))
+    bev.all(dir)
 }

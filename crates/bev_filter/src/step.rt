@@ -1,6 +1,6 @@
 // A filter's step from one bufferevent to another in room that was made before, which is never refused. Bytes that a filter hands on as
 // they are move with their buffer where that can be; what another filter makes is made beside the buffers and pushed.
-ghost use Rattle.std.specs.Prelude.{◌≡◌, ◌+◌, ◌≤◌, ◌<◌, ◌^◌, length, OnOk, IfOk, IsOk, vec_capacity};
+ghost use Rattle.std.specs.Prelude.{◌≡◌, ◌+◌, ◌≤◌, ◌<◌, ◌^◌, false, length, OnOk, IfOk, IsOk, vec_capacity};
 ghost use Rattle.ev_types.specs.declared.filter.FilterKind.TheVariants as kind_of;
 ghost use Rattle.stream_filters.specs.StepAnswers.{most_by_step};
 ghost use Rattle.bev_core.specs.Steps.{held, with_held};
@@ -62,7 +62,8 @@ pub fn reserve_step(
 /// ends behind the source. A filter that is finished or has stopped does nothing. Whether the two are live is not looked at. Answers
 /// how many bytes were made by then, of which `made` were made before.
 ///
-/// Asked that the bytes that the filter used and those of the source are no more than a u64 counts. Takes no memory, and is never
+/// Asked that each buffer of both lies in one piece, and that the bytes that the filter used and those of the source are no more than a
+/// u64 counts. Takes no memory, and is never
 /// refused; constant where all bytes go as they are into an empty buffer, and else linear in the source.
 ///
 /// Own.
@@ -76,6 +77,8 @@ pub fn step_reserved(
     beside: &mut Vec<u8>,
     made: u64,
 ) -> u64
+    requires one_piece { from.old.chunked ≡ false }
+    requires to_one_piece { to.old.chunked ≡ false }
     requires counted { IsCounted dir (record { from = from.old; to = to.old; filter = filter.old }) }
     requires room { HasRoomFor dir (record { from = from.old; to = to.old; filter = filter.old }) limit (vec_capacity beside.old) made }
     ensures crossed { Crossed dir (stepping dir (record { from = from.old; to = to.old; filter = filter.old }) limit at_end)
@@ -105,6 +108,8 @@ fn hand_step(
     limit: usize,
     at_end: bool,
 ) -> usize
+    requires one_piece { from.old.chunked ≡ false }
+    requires to_one_piece { to.old.chunked ≡ false }
     requires kind { filter.old.kind ≡ kind_of.None }
     requires counted { IsCounted dir (record { from = from.old; to = to.old; filter = filter.old }) }
     requires room { MovesInto (length (held from.old dir).bytes) (held to.old dir) limit }
