@@ -199,10 +199,9 @@ impl OwnBuffer {
 
     /// Moves the first n bytes to the end of another, in room that was made before. Takes no memory.
     pub(crate) fn pour(&mut self, n: usize, to: &mut OwnBuffer)
-        requires there { n ≤ length self.old.bytes }
-        requires room { n ≤ to.old.spare }
+        requires { n ≤ to.old.spare }
         ensures left { self.new ≡ less self.old n self.new.spare }
-        ensures given { to.new ≡ more to.old (take n self.old.bytes) (to.old.spare - n) }
+        ensures given { to.new ≡ more to.old (take n self.old.bytes) (to.old.spare - length (take n self.old.bytes)) }
     {
         to.feed_reserved(self.front(n));
         self.drain(n);

@@ -70,13 +70,12 @@ impl Bev {
         }
     }
 
-    /// Moves the first n bytes of the output to the end of another's input, or those of the input to the end of its output, in room that
-    /// was made before, and keeps that room. Takes no memory, and is never refused. Linear in n.
+    /// Moves the first n bytes of the output, or all where there are fewer, to the end of another's input, or those of the input to the end
+    /// of its output, in room that was made before, of which what isn't filled stays. Takes no memory, and is never refused. Linear in n.
     ///
     /// Own.
     pub fn pour(&mut self, dir: Dir, to: &mut Bev, n: usize)
-        requires there { n ≤ length (held self.old dir).bytes }
-        requires room { n ≤ (held to.old (opposite dir)).spare }
+        requires { n ≤ (held to.old (opposite dir)).spare }
         ensures left { self.new ≡ with_held self.old dir (less (held self.old dir) n (held self.new dir).spare) }
         ensures given { to.new ≡ fed_reserved to.old (opposite dir) (take n (held self.old dir).bytes) }
     {
