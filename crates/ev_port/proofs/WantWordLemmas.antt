@@ -1,7 +1,7 @@
 -- The wants of 64 sides at a time, beside the wants by the numbers of their sides.
 use Rattle.std.proofs.Common.{◌≡◌, ◌∙◌, ℕ, zero, suc, ◌+◌, ◌*◌, ◌^◌, ◌<◌, ◌≤◌, length}
 use Rattle.std.proofs.Common.{Bool, true, false, [], ◌∷◌, ◌++◌}
-use Rattle.std.proofs.Common.{Option, Some, None, add-one, refl, sym, ap, subst, arith, inl, inr, append-nil, append_assoc, length-append}
+use Rattle.std.proofs.Common.{Option, Some, None, refl, sym, ap, subst, arith, inl, inr, append-nil, append_assoc, length-append}
 use Rattle.std.specs.Prelude.{filter}
 use Rattle.std.proofs.lemmas.Bool.{cases_Bool, cases_eq, cases_lt, or_from}
 use Rattle.number_set.specs.Next.{in_either}
@@ -62,18 +62,6 @@ word-some x j (suc k) l h = elim (cases_eq j k) [
       let s = word-some x j k (omega (arith, l, e)) h in
       omega (arith, m, s))
 ]
-
--- one side more
-pub word-none : (x : WantWord) (k : ℕ) → wants_some (word_row x k) ≡ false → word_rows_before x (k + 1) ≡ word_rows_before x k
-word-none x k h =
-    ap (word_rows_before x) (add-one k)
-    ∙ ap (λ ws. word_rows_before x k ++ ws) (one (word_row x k) false h)
-    ∙ append-nil (word_rows_before x k)
-
-pub word-one : (x : WantWord) (k : ℕ) → wants_some (word_row x k) ≡ true
-    → word_rows_before x (k + 1) ≡ word_rows_before x k ++ word_row x k ∷ []
-word-one x k h =
-    ap (word_rows_before x) (add-one k) ∙ ap (λ ws. word_rows_before x k ++ ws) (one (word_row x k) true h)
 
 -- all sides of a word are its first 64
 pub word_rows-all : (x : WantWord) → word_rows_before x 64 ≡ word_rows x
