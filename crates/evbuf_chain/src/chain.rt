@@ -19,7 +19,7 @@ ghost use Rattle.std.specs.Rc.{rc_slice_items};
 
 use crate::chunk::Chunk;
 use crate::chunks::Chunks;
-use crate::ends::{move_front, pull, put_before, put_behind, seal};
+use crate::ends::{move_front, pull, put_before, put_behind, seal, take};
 use crate::fault::ChainFault;
 use crate::own::Own;
 use crate::queue::Queue;
@@ -338,6 +338,44 @@ impl Chain {
             &mut from.chunks,
             &mut from.own,
         );
+    }
+
+    /// Copies the first n bytes behind those of another chain, in room that was made there before, and takes them off. Takes no memory;
+    /// linear in n and the chunks that it takes off.
+    ///
+    /// Own.
+    pub fn pour(&mut self, n: usize, to: &mut Chain)
+        requires there { n ≤ length self.old.bytes }
+        requires room { n ≤ to.old.spare }
+        ensures bytes { self.new.bytes ≡ drop n self.old.bytes }
+        ensures marks { self.new.marks ≡ drop n self.old.marks }
+        ensures released { self.new.released ≡ self.old.released ++ ended_tickets (take n self.old.marks) }
+        ensures spare { self.new.spare ≡ self.old.spare }
+        ensures to_bytes { to.new.bytes ≡ to.old.bytes ++ take n self.old.bytes }
+        ensures to_marks { to.new.marks ≡ to.old.marks ++ unmarked n }
+        ensures to_released { to.new.released ≡ to.old.released }
+        ensures to_spare { to.new.spare + n ≡ to.old.spare }
+    {
+        take(
+            &mut self.chunks,
+            &mut self.own,
+            &mut self.ended,
+            n,
+            &mut to.own,
+        );
+    }
+
+    /// All bytes in one piece, or None where they lie in several chunks. Takes no memory; constant cost.
+    ///
+    /// Own.
+    pub fn piece(&self) -> Option<&[u8]>
+        ensures piece { IfSome result (λ piece. piece.now ≡ self.now.bytes) }
+        ensures none { IfNone result (0 < length self.now.bytes) }
+    {
+        if self.chunks.len() > 0 {
+            return None;
+        }
+        Some(self.own.as_slice())
     }
 
     // Whether so many more bytes leave a length that fits a usize.
