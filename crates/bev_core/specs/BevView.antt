@@ -1,11 +1,12 @@
 -- How a bufferevent keeps what it shows.
+use Rattle.std.specs.Prelude.{◌≡◌}
 use Rattle.bev_core.specs.BevValue.{BevValue}
 use Rattle.bev_core.specs.declared.bev.Bev.TheInside.{Inside}
 
 abbrev pub bev_value : Inside → BevValue
 bev_value bev = record {
   live = bev.live;
-  chunked = bev.chunked;
+  chunked = bev.input.chunked;
   reading = bev.reading;
   writing = bev.writing;
   ended = bev.ended;
@@ -19,6 +20,10 @@ bev_value bev = record {
   last_read = bev.last_read;
   last_write = bev.last_write;
   refs = bev.refs;
-  input = bev.input;
-  output = bev.output;
+  input = bev.input.held;
+  output = bev.output.held;
 }
+
+-- both buffers lie in one piece, or both may lie in several chunks
+abbrev pub IsBev : Inside → Type 0
+IsBev bev = bev.output.chunked ≡ bev.input.chunked

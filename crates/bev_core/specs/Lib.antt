@@ -1,5 +1,8 @@
 pub mod BevValue
 pub mod BevView
+pub mod BufferValue
+pub mod BufferView
+pub mod ChainView
 pub mod Moves
 pub mod Refusals
 pub mod Steps

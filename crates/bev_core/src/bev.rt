@@ -6,7 +6,7 @@
 // 2. A refused call has changed nothing.
 // 3. Nobody else reaches its buffers, so the input is frozen at its end and the output at its front for all others.
 ghost use Rattle.std.specs.Prelude.{◌≡◌, ◌≤◌, ◌<◌, ◌+◌, ◌-◌, ◌^◌, ◌++◌, ◌==◌, [], length, drop, take, min, true, false, None, OnOk, OnErr};
-ghost use Rattle.std.specs.Prelude.{IfOk, if◌then◌else◌};
+ghost use Rattle.std.specs.Prelude.{IfOk, IfSome, is_some, if◌then◌else◌};
 ghost use Rattle.byte_queue.specs.MemoryAnswers.{AnswersOr, fault_of};
 ghost use Rattle.bev_core.specs.BevValue.{new_bev, new_chunked, state_of, reaches_low};
 ghost use Rattle.bev_core.specs.Refusals.{live_refusal, length_refusal, write_refusal, feed_refusal, incref_refusal, decref_refusal};
@@ -22,6 +22,7 @@ mod steps;
 use crate::fault::BevFault;
 use crate::own_buffer::OwnBuffer;
 use crate::state::BevState;
+use ev_types::NoMemory;
 use std::alloc::Global;
 use std::marker::Model;
 use token_bucket::Dir;
@@ -35,7 +36,6 @@ use token_bucket::Dir;
 #[derive(Drop)]
 pub struct Bev {
     live: bool,
-    chunked: bool,
     reading: bool,
     writing: bool,
     ended: bool,
@@ -58,9 +58,11 @@ impl Model for Bev {
 
     ghost Value = { BevValue };
 
-    ghost use Rattle.bev_core.specs.BevView.{bev_value};
+    ghost use Rattle.bev_core.specs.BevView.{bev_value, IsBev};
 
     ghost view = { bev_value };
+
+    ghost invariant = { IsBev };
 }
 
 impl Bev {
@@ -93,7 +95,6 @@ impl Bev {
     {
         Bev {
             live: true,
-            chunked,
             reading: false,
             writing: true,
             ended: false,
@@ -107,8 +108,8 @@ impl Bev {
             write_ms: 0,
             last_read: 0,
             last_write: 0,
-            input: OwnBuffer::new(alloc),
-            output: OwnBuffer::new(alloc),
+            input: OwnBuffer::new(alloc, chunked),
+            output: OwnBuffer::new(alloc, chunked),
         }
     }
 
@@ -317,11 +318,23 @@ impl Bev {
         self.buffer(dir).front(n)
     }
 
-    /// Lab only.
-    pub fn all(&self, dir: Dir) -> &[u8]
-        ensures { result.now ≡ (held self.now dir).bytes }
+    /// All bytes of the buffer of a direction in one piece, or None where they lie in several chunks. Takes no memory; constant cost.
+    ///
+    /// Own.
+    pub fn piece(&self, dir: Dir) -> Option<&[u8]>
+        ensures piece { IfSome result (λ piece. piece.now ≡ (held self.now dir).bytes) }
+        ensures there { self.now.chunked ≡ false → is_some result ≡ true }
     {
-        self.buffer(dir).front(self.len(dir))
+        self.buffer(dir).piece()
+    }
+
+    /// A copy of the first n bytes of the buffer of a direction, or of all where there are fewer. Takes memory for it; linear in n.
+    ///
+    /// Libevent: event2/buffer.h, `evbuffer_copyout`; "Evbuffers".
+    pub fn gathered(&self, dir: Dir, n: usize) -> Result<Vec<u8>, NoMemory>
+        ensures { IfOk result (λ copy. copy.items ≡ take n (held self.now dir).bytes) }
+    {
+        self.buffer(dir).gathered(n)
     }
 
     /// Copies bytes to the end of the output. Spent comes where the length would not fit a usize. Takes memory only where there is
@@ -401,7 +414,8 @@ impl Bev {
 
     // The buffer of a direction.
     fn buffer(&self, dir: Dir) -> &OwnBuffer
-        ensures { result.now ≡ held self.now dir }
+        ensures held { result.now.held ≡ held self.now dir }
+        ensures chunked { result.now.chunked ≡ self.now.chunked }
     {
         match dir {
             Dir::Read => &self.input,

@@ -2,6 +2,7 @@
 #![tactic(auto)]
 
 mod bev;
+mod chained;
 mod event;
 mod fault;
 mod own_buffer;

@@ -1,15 +1,17 @@
 // A buffer that nobody but its bufferevent reaches. So it is frozen at no end, and has no reference and no size callback: all of it is
 // its bytes.
-ghost use Rattle.std.specs.Prelude.{◌≡◌, ◌≤◌, ◌<◌, ◌+◌, ◌-◌, ◌*◌, ◌^◌, ◌++◌, ◌==◌, [], length, drop, take, min, max, None};
-ghost use Rattle.std.specs.Prelude.{if◌then◌else◌, OnOk, OnErr, IfOk, IsOk};
+ghost use Rattle.std.specs.Prelude.{◌≡◌, ◌≤◌, ◌<◌, ◌+◌, ◌-◌, ◌*◌, ◌^◌, ◌++◌, ◌==◌, [], length, drop, take, min, max, None, true, false};
+ghost use Rattle.std.specs.Prelude.{if◌then◌else◌, is_some, OnOk, OnErr, IfOk, IfSome, IsOk};
 ghost use Rattle.byte_queue.specs.MemoryAnswers.{AnswersOr, fault_of};
 ghost use Rattle.byte_queue.specs.QueuedBytes.{most_spare};
-ghost use Rattle.bev_core.specs.BevValue.{Held, nothing};
-ghost use Rattle.bev_core.specs.Moves.{GoesInto};
+ghost use Rattle.bev_core.specs.BevValue.{nothing};
+ghost use Rattle.bev_core.specs.BufferValue.{more, less, without_room};
 ghost use Rattle.bev_core.specs.Refusals.{length_refusal};
-ghost use Rattle.bev_core.specs.Steps.{more, less, without_room};
 ghost use Rattle.bev_core.specs.declared.fault.BevFault.TheVariants.{Memory};
 
+mod moves;
+
+use crate::chained::Chained;
 use crate::fault::BevFault;
 use byte_queue::ByteQueue;
 use ev_types::NoMemory;
@@ -17,204 +19,233 @@ use std::alloc::Global;
 use std::marker::Model;
 use std::mem;
 
+/// Where the bytes lie: in one piece, or in chunks.
+#[derive(Drop)]
+enum Kept {
+    Piece(ByteQueue),
+    Chunks(Chained),
+}
+
 /// Bytes in order, and how many more fit without taking memory.
 ///
 /// Own.
 #[derive(Drop)]
 pub(crate) struct OwnBuffer {
-    queue: ByteQueue,
+    kept: Kept,
 }
 
 impl Model for OwnBuffer {
-    ghost use Rattle.std.specs.Prelude.{◌≤◌, ◌*◌, length};
-    ghost use Rattle.bev_core.specs.BevValue.{Held};
+    ghost use Rattle.bev_core.specs.BufferValue.{BufferValue};
+    ghost use Rattle.bev_core.specs.BufferView.{buffer_value};
 
-    ghost Value = { Held };
+    ghost Value = { BufferValue };
 
-    ghost view = { λ own. record { bytes = own.queue.items; spare = own.queue.spare } };
+    ghost view = { λ own. buffer_value own.kept };
 }
 
 impl OwnBuffer {
-    pub(crate) fn new(alloc: Global) -> OwnBuffer
-        ensures { result ≡ nothing }
+    pub(crate) fn new(alloc: Global, chunked: bool) -> OwnBuffer
+        ensures { result ≡ record { held = nothing; chunked = chunked } }
     {
-        OwnBuffer {
-            queue: ByteQueue::new(alloc),
-        }
+        let kept = if chunked {
+            Kept::Chunks(Chained::new(alloc))
+        } else {
+            Kept::Piece(ByteQueue::new(alloc))
+        };
+        OwnBuffer { kept }
     }
 
     pub(crate) fn len(&self) -> usize
-        ensures len { result ≡ length self.now.bytes }
-        ensures fits { length self.now.bytes + self.now.spare < 2 ^ 64 }
+        ensures len { result ≡ length self.now.held.bytes }
+        ensures fits { length self.now.held.bytes + self.now.held.spare < 2 ^ 64 }
     {
-        self.queue.len()
+        match &self.kept {
+            Kept::Piece(queue) => queue.len(),
+            Kept::Chunks(chunks) => chunks.len(),
+        }
     }
 
     pub(crate) fn allocator(&self) -> Global {
-        self.queue.allocator()
+        match &self.kept {
+            Kept::Piece(queue) => queue.allocator(),
+            Kept::Chunks(chunks) => chunks.allocator(),
+        }
+    }
+
+    /// All bytes in one piece, or None where they lie in several chunks.
+    pub(crate) fn piece(&self) -> Option<&[u8]>
+        ensures piece { IfSome result (λ piece. piece.now ≡ self.now.held.bytes) }
+        ensures there { self.now.chunked ≡ false → is_some result ≡ true }
+    {
+        match &self.kept {
+            Kept::Piece(queue) => Some(queue.as_slice()),
+            Kept::Chunks(chunks) => chunks.piece(),
+        }
     }
 
     /// The first n bytes, or all where there are fewer, in one piece.
     pub(crate) fn front(&self, n: usize) -> &[u8]
-        ensures { result.now ≡ take n self.now.bytes }
+        requires { self.now.chunked ≡ false }
+        ensures { result.now ≡ take n self.now.held.bytes }
     {
-        let (bytes, _) = self.queue.as_slice().split_at(n.min(self.len()));
-        bytes
+        match &self.kept {
+            Kept::Piece(queue) => {
+                let (bytes, _) = queue.as_slice().split_at(n.min(queue.len()));
+                bytes
+            }
+            Kept::Chunks(_) => &[],
+        }
     }
 
     pub(crate) fn copy_out(&self, into: &mut [u8]) -> usize
-        ensures count { result ≡ min (length into.old) (length self.now.bytes) }
-        ensures copied { into.new ≡ take result self.now.bytes ++ drop result into.old }
+        ensures count { result ≡ min (length into.old) (length self.now.held.bytes) }
+        ensures copied { into.new ≡ take result self.now.held.bytes ++ drop result into.old }
     {
-        let count = into.len().min(self.len());
-        let (place, _) = into.split_at_mut(count);
-        place.copy_from_slice(self.front(count));
-        count
+        match &self.kept {
+            Kept::Piece(queue) => {
+                let count = into.len().min(queue.len());
+                let (place, _) = into.split_at_mut(count);
+                place.copy_from_slice(queue.as_slice().split_at(count).0);
+                count
+            }
+            Kept::Chunks(chunks) => chunks.copy_out(into),
+        }
+    }
+
+    /// A copy of the first n bytes, or of all where there are fewer.
+    pub(crate) fn gathered(&self, n: usize) -> Result<Vec<u8>, NoMemory>
+        ensures { IfOk result (λ copy. copy.items ≡ take n self.now.held.bytes) }
+    {
+        let mut copy = Vec::new(self.allocator());
+        copy.resize(n.min(self.len()), 0)?;
+        self.copy_out(copy.as_mut_slice());
+        Ok(copy)
     }
 
     /// Makes room for at least n more. Takes memory only where there is less.
     pub(crate) fn reserve(&mut self, n: usize) -> Result<(), NoMemory>
-        ensures bytes { self.new.bytes ≡ self.old.bytes }
-        ensures room { OnOk result (n ≤ self.new.spare) }
-        ensures kept { self.old.spare ≤ self.new.spare }
-        ensures most { self.new.spare ≤ most_spare self.old.spare n (length self.old.bytes) }
-        ensures there { n ≤ self.old.spare → IsOk result }
-        ensures still { n ≤ self.old.spare → self.new ≡ self.old }
+        ensures stays { self.new ≡ more self.old [] self.new.held.spare }
+        ensures room { OnOk result (n ≤ self.new.held.spare) }
+        ensures kept { self.old.held.spare ≤ self.new.held.spare }
+        ensures most { self.new.held.spare ≤ most_spare self.old.held.spare n (length self.old.held.bytes) }
+        ensures there { n ≤ self.old.held.spare → IsOk result }
+        ensures still { n ≤ self.old.held.spare → self.new ≡ self.old }
         ensures err { OnErr result (self.new ≡ self.old) }
     {
-        self.queue.reserve(n)?;
-        Ok(())
-    }
-
-    /// Appends: in room that it makes, or where no memory is left for that in the room of an empty one that has room for all.
-    pub(crate) fn feed_or_swap(&mut self, bytes: &[u8], spare: &mut OwnBuffer)
-        requires room { length self.old.bytes + length bytes.now ≤ spare.old.spare }
-        requires empty { spare.old.bytes ≡ [] }
-        ensures fed { self.new ≡ more self.old bytes.now self.new.spare }
-        ensures most { self.new.spare ≤ max spare.old.spare (most_spare self.old.spare 0 (length self.old.bytes)) }
-        ensures kept { length bytes.now ≤ self.old.spare → spare.new ≡ spare.old }
-        ensures used { length bytes.now ≤ self.old.spare → self.new.spare + length bytes.now ≡ self.old.spare }
-        ensures empty { spare.new.bytes ≡ [] }
-    {
-        if self.queue.append(bytes).is_err() {
-            self.take_room(spare);
-            self.feed_reserved(bytes);
+        match &mut self.kept {
+            Kept::Piece(queue) => Ok(queue.reserve(n)?),
+            Kept::Chunks(chunks) => chunks.reserve(n),
         }
     }
 
-    /// Takes the room of an empty one for its bytes, and leaves its own to that.
-    fn take_room(&mut self, spare: &mut OwnBuffer)
-        requires room { length self.old.bytes ≤ spare.old.spare }
-        requires empty { spare.old.bytes ≡ [] }
-        ensures taken { self.new ≡ more nothing self.old.bytes (spare.old.spare - length self.old.bytes) }
-        ensures empty { spare.new.bytes ≡ [] }
+    /// Appends: in room that it makes, or where no memory is left for that in the room of an empty queue that has room for all.
+    pub(crate) fn feed_or_swap(&mut self, bytes: &[u8], spare: &mut ByteQueue)
+        requires one_piece { self.old.chunked ≡ false }
+        requires room { length self.old.held.bytes + length bytes.now ≤ spare.old.spare }
+        requires empty { spare.old.items ≡ [] }
+        ensures fed { self.new ≡ more self.old bytes.now self.new.held.spare }
+        ensures most { self.new.held.spare ≤ max spare.old.spare (most_spare self.old.held.spare 0 (length self.old.held.bytes)) }
+        ensures kept { length bytes.now ≤ self.old.held.spare → spare.new ≡ spare.old }
+        ensures used { length bytes.now ≤ self.old.held.spare → self.new.held.spare + length bytes.now ≡ self.old.held.spare }
+        ensures empty { spare.new.items ≡ [] }
     {
-        let len = self.len();
-        spare.feed_reserved(self.front(len));
-        mem::swap(&mut self.queue, &mut spare.queue);
-        spare.drain(len);
+        if let Kept::Piece(queue) = &mut self.kept {
+            if queue.append(bytes).is_err() {
+                take_room(queue, spare);
+                queue.push(bytes);
+            }
+        }
     }
 
     /// Appends in room that was made before. Takes no memory.
     pub(crate) fn feed_reserved(&mut self, bytes: &[u8])
-        requires { length bytes.now ≤ self.old.spare }
-        ensures { self.new ≡ more self.old bytes.now (self.old.spare - length bytes.now) }
+        requires { length bytes.now ≤ self.old.held.spare }
+        ensures { self.new ≡ more self.old bytes.now (self.old.held.spare - length bytes.now) }
     {
-        self.queue.push(bytes);
+        match &mut self.kept {
+            Kept::Piece(queue) => queue.push(bytes),
+            Kept::Chunks(chunks) => chunks.push(bytes),
+        }
     }
 
     /// Takes off the first n, or all where there are fewer. Takes no memory.
     pub(crate) fn drain(&mut self, n: usize)
-        ensures bytes { self.new.bytes ≡ drop n self.old.bytes }
-        ensures spare { self.old.spare ≤ self.new.spare }
-        ensures most { length self.new.bytes + self.new.spare ≤ self.old.spare + 4 * length self.old.bytes }
+        ensures left { self.new ≡ less self.old n self.new.held.spare }
+        ensures spare { self.old.held.spare ≤ self.new.held.spare }
+        ensures most { length self.new.held.bytes + self.new.held.spare ≤ self.old.held.spare + 4 * length self.old.held.bytes }
     {
-        let n = n.min(self.len());
-        self.queue.drop_front(n);
+        match &mut self.kept {
+            Kept::Piece(queue) => {
+                let n = n.min(queue.len());
+                queue.drop_front(n);
+            }
+            Kept::Chunks(chunks) => chunks.drain(n),
+        }
     }
 
     /// Frees the room where there is no byte. Takes no memory.
     pub(crate) fn give_up(&mut self)
         ensures { self.new ≡ without_room self.old }
     {
-        self.queue.give_up();
+        match &mut self.kept {
+            Kept::Piece(queue) => queue.give_up(),
+            Kept::Chunks(chunks) => chunks.give_up(),
+        }
     }
 
     /// Drops the bytes, and frees their room. Takes no memory.
     pub(crate) fn empty(&mut self)
-        ensures { self.new ≡ nothing }
+        ensures { self.new ≡ record self.old { held = nothing } }
     {
-        self.queue = ByteQueue::new(self.allocator());
+        let alloc = self.allocator();
+        match &mut self.kept {
+            Kept::Piece(queue) => *queue = ByteQueue::new(alloc),
+            Kept::Chunks(chunks) => *chunks = Chained::new(alloc),
+        }
     }
 
     /// Appends, in the room that is there or in room that it makes.
     pub(crate) fn feed(&mut self, bytes: &[u8]) -> Result<(), BevFault>
-        ensures answer { AnswersOr Memory result (length_refusal self.old (length bytes.now)) }
-        ensures there { length bytes.now ≤ self.old.spare → fault_of result ≡ None }
-        ensures ok { OnOk result (self.new ≡ more self.old bytes.now self.new.spare) }
-        ensures used { length bytes.now ≤ self.old.spare → self.new.spare + length bytes.now ≡ self.old.spare }
+        ensures answer { AnswersOr Memory result (length_refusal self.old.held (length bytes.now)) }
+        ensures there { length bytes.now ≤ self.old.held.spare → fault_of result ≡ None }
+        ensures ok { OnOk result (self.new ≡ more self.old bytes.now self.new.held.spare) }
+        ensures used { length bytes.now ≤ self.old.held.spare → self.new.held.spare + length bytes.now ≡ self.old.held.spare }
         ensures err { OnErr result (self.new ≡ self.old) }
     {
         self.fits(bytes.len())?;
-        if self.queue.append(bytes).is_err() {
+        let appended = match &mut self.kept {
+            Kept::Piece(queue) => queue.append(bytes).is_ok(),
+            Kept::Chunks(chunks) => chunks.append(bytes).is_ok(),
+        };
+        if !appended {
             return Err(BevFault::Memory);
         }
         Ok(())
     }
 
-    /// Moves the first n bytes, or all where there are fewer, to the end of another, and answers how many. All bytes go into
-    /// an empty one by exchange, which takes no memory.
-    pub(crate) fn move_front(&mut self, n: usize, to: &mut OwnBuffer) -> Result<usize, BevFault>
-        ensures answer { AnswersOr Memory result (length_refusal to.old (min n (length self.old.bytes))) }
-        ensures count { IfOk result (λ moved. moved ≡ min n (length self.old.bytes)) }
-        ensures ok { OnOk result (self.new ≡ less self.old n self.new.spare) }
-        ensures to_ok { OnOk result (to.new ≡ more to.old (take n self.old.bytes) to.new.spare) }
-        ensures err { OnErr result (self.new ≡ self.old) }
-        ensures to_err { OnErr result (to.new ≡ to.old) }
-        ensures exchanged { length self.old.bytes ≤ n → to.old.bytes ≡ [] → fault_of result ≡ None }
-        ensures there { GoesInto n self.old to.old → fault_of result ≡ None }
-    {
-        let moved = n.min(self.len());
-        if self.len() > n || to.len() > 0 {
-            to.fits(moved)?;
-            to.reserve(moved)?;
-        }
-        self.move_in_room(n, to);
-        Ok(moved)
-    }
-
-    /// The same in room that was made before, where not all go into an empty one. Takes no memory.
-    pub(crate) fn move_in_room(&mut self, n: usize, to: &mut OwnBuffer)
-        requires { GoesInto n self.old to.old }
-        ensures left { self.new ≡ less self.old n self.new.spare }
-        ensures given { to.new ≡ more to.old (take n self.old.bytes) to.new.spare }
-    {
-        if self.len() <= n && to.len() == 0 {
-            mem::swap(&mut self.queue, &mut to.queue);
-            return;
-        }
-        to.feed_reserved(self.front(n));
-        self.drain(n);
-    }
-
-    /// Moves the first n bytes to the end of another, in room that was made before. Takes no memory.
-    pub(crate) fn pour(&mut self, n: usize, to: &mut OwnBuffer)
-        requires { n ≤ to.old.spare }
-        ensures left { self.new ≡ less self.old n self.new.spare }
-        ensures given { to.new ≡ more to.old (take n self.old.bytes) (to.old.spare - length (take n self.old.bytes)) }
-    {
-        to.feed_reserved(self.front(n));
-        self.drain(n);
-    }
-
     // Whether so many more bytes leave a length that fits a usize.
     fn fits(&self, n: usize) -> Result<(), BevFault>
-        ensures answer { fault_of result ≡ length_refusal self.now n }
-        ensures there { n ≤ self.now.spare → fault_of result ≡ None }
+        ensures answer { fault_of result ≡ length_refusal self.now.held n }
+        ensures there { n ≤ self.now.held.spare → fault_of result ≡ None }
+        ensures room { OnOk result (length self.now.held.bytes + n < 2 ^ 64) }
     {
         if n > usize::MAX - self.len() {
             return Err(BevFault::Spent);
         }
         Ok(())
     }
+}
+
+// Takes the room of an empty queue for its bytes, and leaves its own to that.
+fn take_room(queue: &mut ByteQueue, spare: &mut ByteQueue)
+    requires room { length queue.old.items ≤ spare.old.spare }
+    requires empty { spare.old.items ≡ [] }
+    ensures items { queue.new.items ≡ queue.old.items }
+    ensures room { queue.new.spare ≡ spare.old.spare - length queue.old.items }
+    ensures empty { spare.new.items ≡ [] }
+{
+    let len = queue.len();
+    spare.push(queue.as_slice());
+    mem::swap(queue, spare);
+    spare.drop_front(len);
 }

@@ -1,7 +1,7 @@
 // Room for bytes that lies beside the bufferevents.
 ghost use Rattle.std.specs.Prelude.{◌≡◌, ◌≤◌, max, OnOk, IsOk};
 
-use crate::own_buffer::OwnBuffer;
+use byte_queue::ByteQueue;
 use ev_types::NoMemory;
 use std::alloc::Global;
 use std::marker::Model;
@@ -12,7 +12,7 @@ use std::marker::Model;
 /// Own.
 #[derive(Drop)]
 pub struct SpareRoom {
-    pub(crate) buffer: OwnBuffer,
+    pub(crate) queue: ByteQueue,
 }
 
 impl Model for SpareRoom {
@@ -20,9 +20,9 @@ impl Model for SpareRoom {
 
     ghost Value = { ℕ };
 
-    ghost view = { λ room. room.buffer.spare };
+    ghost view = { λ room. room.queue.spare };
 
-    ghost invariant = { λ room. room.buffer.bytes ≡ [] };
+    ghost invariant = { λ room. room.queue.items ≡ [] };
 }
 
 impl SpareRoom {
@@ -33,7 +33,7 @@ impl SpareRoom {
         ensures { result ≡ 0 }
     {
         SpareRoom {
-            buffer: OwnBuffer::new(alloc),
+            queue: ByteQueue::new(alloc),
         }
     }
 
@@ -46,6 +46,6 @@ impl SpareRoom {
         ensures most { self.new ≤ max self.old n }
         ensures there { n ≤ self.old → IsOk result }
     {
-        self.buffer.reserve(n)
+        Ok(self.queue.reserve(n)?)
     }
 }

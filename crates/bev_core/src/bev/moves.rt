@@ -1,6 +1,6 @@
 // Bytes that go from a buffer of one bufferevent to a buffer of another: they pass to that of the same direction, or cross to that of
 // the other one.
-ghost use Rattle.std.specs.Prelude.{◌≡◌, ◌≤◌, [], length, min, take, None, OnOk, OnErr, IfOk};
+ghost use Rattle.std.specs.Prelude.{◌≡◌, ◌≤◌, [], length, min, take, None, true, OnOk, OnErr, IfOk};
 ghost use Rattle.byte_queue.specs.MemoryAnswers.{AnswersOr, fault_of};
 ghost use Rattle.bev_core.specs.Moves.{GoesInto, BytesGo, opposite};
 ghost use Rattle.bev_core.specs.Refusals.{length_refusal};
@@ -27,6 +27,8 @@ impl Bev {
         ensures to_err { OnErr result (to.new ≡ to.old) }
         ensures exchanged { length (held self.old dir).bytes ≤ n → (held to.old dir).bytes ≡ [] →
             self.old.chunked ≡ to.old.chunked → fault_of result ≡ None }
+        ensures chunks { self.old.chunked ≡ true → to.old.chunked ≡ true → length (held self.old dir).bytes ≤ n →
+            fault_of result ≡ length_refusal (held to.old dir) (length (held self.old dir).bytes) }
         ensures there { GoesInto n (held self.old dir) (held to.old dir) → self.old.chunked ≡ to.old.chunked → fault_of result ≡ None }
     {
         match dir {
@@ -46,6 +48,8 @@ impl Bev {
         ensures to_err { OnErr result (to.new ≡ to.old) }
         ensures exchanged { length (held self.old dir).bytes ≤ n → (held to.old (opposite dir)).bytes ≡ [] →
             self.old.chunked ≡ to.old.chunked → fault_of result ≡ None }
+        ensures chunks { self.old.chunked ≡ true → to.old.chunked ≡ true → length (held self.old dir).bytes ≤ n →
+            fault_of result ≡ length_refusal (held to.old (opposite dir)) (length (held self.old dir).bytes) }
         ensures there { GoesInto n (held self.old dir) (held to.old (opposite dir)) → self.old.chunked ≡ to.old.chunked →
             fault_of result ≡ None }
     {
@@ -75,7 +79,8 @@ impl Bev {
     ///
     /// Own.
     pub fn pour(&mut self, dir: Dir, to: &mut Bev, n: usize)
-        requires { n ≤ (held to.old (opposite dir)).spare }
+        requires alike { self.old.chunked ≡ to.old.chunked }
+        requires room { n ≤ (held to.old (opposite dir)).spare }
         ensures left { self.new ≡ with_held self.old dir (less (held self.old dir) n (held self.new dir).spare) }
         ensures given { to.new ≡ fed_reserved to.old (opposite dir) (take n (held self.old dir).bytes) }
     {

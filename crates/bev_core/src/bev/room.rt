@@ -78,6 +78,6 @@ impl Bev {
         ensures kept { length bytes.now ≤ self.old.input.spare → spare.new ≡ spare.old }
         ensures used { length bytes.now ≤ self.old.input.spare → self.new.input.spare + length bytes.now ≡ self.old.input.spare }
     {
-        self.input.feed_or_swap(bytes, &mut spare.buffer);
+        self.input.feed_or_swap(bytes, &mut spare.queue);
     }
 }
