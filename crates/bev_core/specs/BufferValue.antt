@@ -1,5 +1,5 @@
 -- What contracts of this crate see of a buffer, and what its calls leave.
-use Rattle.std.specs.Prelude.{ℕ, ◌-◌, Bool, List, length, take}
+use Rattle.std.specs.Prelude.{ℕ, Bool, List}
 use Rattle.bev_core.specs.BevValue.{Held}
 use Rattle.bev_core.specs.Steps as steps
 

@@ -1,8 +1,5 @@
 -- How a buffer keeps what it shows.
-use Rattle.std.specs.Prelude.{Bool, true, false, Option, Some, None, Box}
-use Rattle.std.specs.declared.alloc.Global.{Global}
-use Rattle.evbuf_chain.specs.Buffered.{Buffered}
-use Rattle.bev_core.specs.BevValue.{Held, nothing}
+use Rattle.std.specs.Prelude.{true, false}
 use Rattle.bev_core.specs.BufferValue.{BufferValue}
 use Rattle.bev_core.specs.declared.own_buffer.Kept.{Kept}
 use Rattle.bev_core.specs.declared.own_buffer.Kept.TheVariants.{Piece, Chunks}
