@@ -5,6 +5,7 @@
 mod fault;
 mod own_filter;
 mod passing;
+mod source;
 mod step;
 
 pub use bev_core::Bev;

@@ -7,7 +7,7 @@ ghost use Rattle.bev_filter.specs.PassingBy.{PassesBy, Trades};
 ghost use Rattle.bev_filter.specs.declared.fault.PassFault.TheVariants.{Memory};
 
 use crate::fault::PassFault;
-use crate::passing::all_of;
+use crate::source::step_of;
 use bev_core::{Bev, Dir};
 use std::vec::Vec;
 use stream_filters::{FilterFault, Mode, Step, StreamFilter};
@@ -79,7 +79,7 @@ fn pass_by<F: StreamFilter>(
     let mut next = filter.copied();
     let mut made = Vec::new(from.allocator());
     let room = limit.saturating_sub(to.len(dir));
-    match next.step(all_of(from, dir), &mut made, room, mode) {
+    match step_of(from, dir, &mut next, &mut made, room, mode) {
         Ok(step) => {
             trade(from, to, dir, &made, step.used)?;
             *filter = next;

@@ -8,6 +8,7 @@ ghost use Rattle.bev_core.specs.Steps.{held};
 ghost use Rattle.bev_filter.specs.Passing.{Passes, says_spent};
 
 use crate::fault::PassFault;
+use crate::source::make_of;
 use bev_core::{Bev, Dir};
 use std::vec::Vec;
 use stream_filters::{AnyFilter, FilterFault, FilterKind, Mode, Step, StreamFilter};
@@ -84,7 +85,7 @@ fn pass(
     }
 }
 
-/// Passes them as they are: they are moved, and go through no other memory.
+/// Passes them as they are: they are moved, and go through no other memory but where they lie in several chunks.
 fn pass_as_is(
     from: &mut Bev,
     to: &mut Bev,
@@ -99,8 +100,11 @@ fn pass_as_is(
         (record { from = from.new; to = to.new; filter = filter.new }) }
     ensures spent { says_spent result ≡ is_spent filter.old (length (held from.old dir).bytes) }
 {
+    let Some(bytes) = from.piece(dir) else {
+        return pass_made(from, to, dir, filter, limit, mode);
+    };
     let mut next = filter.copied();
-    let answer = next.step_in_place(all_of(from, dir), to.len(dir), limit, mode);
+    let answer = next.step_in_place(bytes, to.len(dir), limit, mode);
     match answer {
         Ok(step) => {
             from.pass(dir, to, step.used)?;
@@ -135,7 +139,7 @@ fn pass_made(
     let mut next = filter.copied();
     let mut made = Vec::new(from.allocator());
     let room = limit.saturating_sub(to.len(dir));
-    let answer = next.step(all_of(from, dir), &mut made, room, mode);
+    let answer = make_of(from, dir, &mut next, &mut made, room, mode);
     match answer {
         Ok(step) => {
             to.feed(dir, &made)?;
@@ -154,11 +158,4 @@ fn pass_made(
             FilterFault::Spent => Err(PassFault::Spent),
         },
     }
-}
-
-/// All bytes of the buffer of a direction, in one piece.
-pub(crate) fn all_of(bev: &Bev, dir: Dir) -> &[u8]
-    ensures { result.now ≡ (held bev.now dir).bytes }
-{
-    bev.all(dir)
 }

@@ -7,7 +7,6 @@ ghost use Rattle.bev_core.specs.Steps.{held, with_held};
 ghost use Rattle.bev_filter.specs.Passing.{Crossed, stepping};
 ghost use Rattle.bev_filter.specs.StepRoom.{hands_on, HasStepRoom, HasRoomFor, IsCounted, MovesInto};
 
-use crate::passing::all_of;
 use bev_core::{Bev, Dir};
 use ev_types::{FilterKind, NoMemory};
 use std::vec::Vec;
@@ -132,6 +131,7 @@ fn make_step(
     at_end: bool,
     beside: &mut Vec<u8>,
 ) -> usize
+    requires one_piece { from.old.chunked ≡ false }
     requires counted { IsCounted dir (record { from = from.old; to = to.old; filter = filter.old }) }
     requires room { most_by_step filter.old.kind (length (held from.old dir).bytes) (length (held to.old dir).bytes) limit ≤
         (held to.old dir).spare }
@@ -148,4 +148,12 @@ fn make_step(
     to.feed_reserved(dir, beside);
     from.drain(dir, used);
     beside.len()
+}
+
+/// All bytes of the buffer of a direction.
+fn all_of(bev: &Bev, dir: Dir) -> &[u8]
+    requires { bev.now.chunked ≡ false }
+    ensures { result.now ≡ (held bev.now dir).bytes }
+{
+    bev.front(dir, bev.len(dir))
 }

@@ -50,6 +50,10 @@ impl StreamFilter for NoZeros {
         self.finished
     }
 
+    fn stopped(&self) -> Option<u64> {
+        None
+    }
+
     fn copied(&self) -> NoZeros {
         NoZeros {
             used: self.used,

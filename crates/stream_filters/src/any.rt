@@ -70,13 +70,6 @@ impl AnyFilter {
         step_in_place(&mut self.known, src, held, limit, mode)
     }
 
-    /// The bad place at which it stopped. Takes no memory; the cost is constant.
-    pub fn stopped(&self) -> Option<u64>
-        ensures { result ≡ self.now.stopped }
-    {
-        self.known.stopped
-    }
-
     /// A step in room that was made before, which is not refused; whether the stream ends behind the source is told. It answers
     /// how many bytes it used. A filter that is finished or has stopped does nothing. Takes no memory; the cost is in the length
     /// of the source.
@@ -127,6 +120,10 @@ impl StreamFilter for AnyFilter {
 
     fn is_finished(&self) -> bool {
         self.known.finished
+    }
+
+    fn stopped(&self) -> Option<u64> {
+        self.known.stopped
     }
 
     fn copied(&self) -> AnyFilter {

@@ -64,6 +64,10 @@ impl StreamFilter for NoFilter {
         self.known.finished
     }
 
+    fn stopped(&self) -> Option<u64> {
+        self.known.stopped
+    }
+
     fn copied(&self) -> NoFilter {
         NoFilter { known: self.known }
     }
@@ -133,6 +137,10 @@ impl StreamFilter for ToCrlf {
 
     fn is_finished(&self) -> bool {
         self.known.finished
+    }
+
+    fn stopped(&self) -> Option<u64> {
+        self.known.stopped
     }
 
     fn copied(&self) -> ToCrlf {
@@ -206,6 +214,10 @@ impl StreamFilter for ToLf {
         self.known.finished
     }
 
+    fn stopped(&self) -> Option<u64> {
+        self.known.stopped
+    }
+
     fn copied(&self) -> ToLf {
         ToLf { known: self.known }
     }
@@ -275,6 +287,10 @@ impl StreamFilter for HexOut {
 
     fn is_finished(&self) -> bool {
         self.known.finished
+    }
+
+    fn stopped(&self) -> Option<u64> {
+        self.known.stopped
     }
 
     fn copied(&self) -> HexOut {
@@ -349,6 +365,10 @@ impl StreamFilter for HexIn {
 
     fn is_finished(&self) -> bool {
         self.known.finished
+    }
+
+    fn stopped(&self) -> Option<u64> {
+        self.known.stopped
     }
 
     fn copied(&self) -> HexIn {

@@ -44,6 +44,10 @@ pub trait StreamFilter: Drop {
     fn is_finished(&self) -> bool
         ensures { result ≡ (reached self.now).finished };
 
+    /// The bad place at which it stopped, or None where it goes on. Takes no memory; the cost is constant.
+    fn stopped(&self) -> Option<u64>
+        ensures { result ≡ (reached self.now).stopped };
+
     /// A filter that has come as far as this one. Takes no memory; the cost is constant.
     ///
     /// Own.
