@@ -1,6 +1,6 @@
 // In which directions groups are suspended, and which links have members. Who keeps a note of that knows when the members of groups may
 // want something else than before.
-ghost use Rattle.std.specs.Prelude.{◌≡◌, ◌≢◌, ◌<◌, ◌≤◌, ◌^◌, true, false, Some, None, slice_set, length, map, slice_get, OnOk, IfOk};
+ghost use Rattle.std.specs.Prelude.{◌≡◌, ◌≢◌, ◌<◌, ◌≤◌, ◌^◌, true, false, Some, None, slice_set, length, map, slice_get, Ok, OnOk, IfOk};
 ghost use Rattle.std.specs.Option.{option_map};
 ghost use Rattle.ev_types.specs.declared.side.SideId.{SideId};
 ghost use Rattle.ev_types.specs.Sides.{number};
@@ -70,6 +70,9 @@ impl Relay {
     pub fn lengthen_halts(&self, seen: &mut Vec<Halts>) -> Result<bool, NoMemory>
         ensures len { OnOk result (length seen.new.items ≡ length self.now.state.groups.groups) }
         ensures known { IfOk result (λ known. known ≡ true → seen.new.items ≡ seen.old.items) }
+
+        // Where no group came it wants no memory.
+        ensures there { length seen.old.items ≡ length self.now.state.groups.groups → result ≡ Ok true }
     {
         let groups = self.group_count();
         if seen.len() == groups {

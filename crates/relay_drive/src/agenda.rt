@@ -1,7 +1,7 @@
 // At which links a turn has something to look at. A link at which nothing was found to do is left alone until something changes there, so
 // that it costs a turn nothing.
-ghost use Rattle.std.specs.Prelude.{◌≡◌, ◌<◌, ◌≤◌, true, false, MatchOption, OnOk};
-ghost use Rattle.relay_drive.specs.Agenda.{Touched, TouchedEach, NamesEach, Covers, IsCovered, IsUntold};
+ghost use Rattle.std.specs.Prelude.{◌≡◌, ◌<◌, ◌≤◌, true, false, MatchOption, OnOk, IsOk};
+ghost use Rattle.relay_drive.specs.Agenda.{Touched, TouchedEach, NamesEach, Covers, HasPlace, IsCovered, IsUntold};
 ghost use Rattle.relay_drive.specs.Moves.{OnlyForMemory};
 
 use crate::fault::DriveFault;
@@ -41,6 +41,7 @@ fn cover(set: &mut NumberSet, link: u32) -> Result<(), DriveFault>
     requires { link ≤ set.old.len }
     ensures covered { OnOk result (Covers link set.old set.new) }
     ensures cause { OnlyForMemory result }
+    ensures there { link < set.old.len → IsOk result }
 {
     if set.len() > link as usize {
         set.insert(link as usize);
@@ -76,6 +77,7 @@ impl Agenda {
         requires live { link ≤ self.old.maybe_open.len }
         ensures covered { OnOk result (IsCovered link self.old self.new) }
         ensures cause { OnlyForMemory result }
+        ensures there { HasPlace link self.old → IsOk result }
     {
         cover(&mut self.to_pass, link)?;
         cover(&mut self.to_close, link)?;

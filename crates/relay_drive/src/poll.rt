@@ -1,5 +1,5 @@
 // Polling: what the sides want, and what the port marks of that.
-ghost use Rattle.std.specs.Prelude.{◌≡◌, ◌+◌, ◌*◌, ◌<◌, ◌≤◌, ◌∷◌, [], false, length, MatchResult, OnOk};
+ghost use Rattle.std.specs.Prelude.{◌≡◌, ◌+◌, ◌*◌, ◌<◌, ◌≤◌, ◌∷◌, [], false, length, MatchResult, OnOk, IsOk};
 ghost use Rattle.ev_types.specs.Growth.{Grew};
 ghost use Rattle.ev_port.specs.Counting.{counted};
 ghost use Rattle.ev_port.specs.Polling.{ready_events};
@@ -50,6 +50,7 @@ fn lengthen(relay: &Relay, wants: &mut WantTable) -> Result<(), DriveFault>
     ensures links { OnOk result (wants.new.links ≡ relay.now.state.plain.opened) }
     ensures rows { OnOk result (OldRowsStay wants.old wants.new) }
     ensures cause { OnlyForMemory result }
+    ensures there { wants.old.links ≡ relay.now.state.plain.opened → IsOk result }
 {
     for _ in wants.links()..relay.opened() {
         wants.push_link()?;
@@ -66,6 +67,7 @@ fn name_wants(relay: &Relay, agenda: &mut Agenda, naming: &mut Naming) -> Result
     ensures right { OnOk result (IsNamed agenda.new naming.new relay.now.state) }
     ensures same { SameBesideWants agenda.old agenda.new }
     ensures cause { OnlyForMemory result }
+    ensures there { naming.old.table.links ≡ relay.now.state.plain.opened → IsOk result }
 {
     lengthen(relay, &mut naming.table)?;
     let mut from = 0;

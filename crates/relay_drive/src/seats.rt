@@ -1,5 +1,5 @@
 // The hooks of a drive, which stand outside of the relay.
-ghost use Rattle.std.specs.Prelude.{◌≡◌, ◌<◌, Some, None, true, is_some, length, slice_set, slice_index_or, if◌then◌else◌, map, IfOk};
+ghost use Rattle.std.specs.Prelude.{◌≡◌, ◌<◌, Some, None, true, is_some, length, slice_set, slice_index_or, if◌then◌else◌, map, IfOk, IsOk};
 ghost use Rattle.std.specs.Prelude.{[], ◌∷◌};
 ghost use Rattle.ev_types.specs.Sides.{number};
 ghost use Rattle.relay_drive.specs.Seats.{hook_at, slots_taken, AreFresh};
@@ -40,6 +40,7 @@ impl Seats {
     pub fn new(alloc: Global, hooks: Vec<Option<Box<dyn Hook>>>) -> Result<Seats, NoMemory>
         ensures hooks { IfOk result (λ seats. seats.hooks.items ≡ hooks.items) }
         ensures fresh { IfOk result (λ seats. AreFresh seats.hooks.items seats.gone.items) }
+        ensures sure { length hooks.items ≡ 0 → IsOk result }
     {
         let mut gone = Vec::new(alloc);
         for _ in 0..hooks.len() {
