@@ -45,7 +45,7 @@ impl World {
         ensures went { Went self.old self.new }
     {
         let mut copy = self.blank()?;
-        copy.write(self.slots[from].bev.front(Dir::Read, n))?;
+        copy.write(self.slots[from].bev.all(Dir::Read))?;
         self.append_all(to, copy, n)?;
         self.drop_first(from, n);
         Ok(())
