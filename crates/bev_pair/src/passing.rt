@@ -25,7 +25,7 @@ pub fn transfer(from: &mut Bev, to: &mut Bev, mode: Mode) -> Result<usize, PairF
     ensures err { OnErr result (from.new ≡ from.old) }
     ensures to_err { OnErr result (to.new ≡ to.old) }
     ensures exchanged { transfer_refusal from.old to.old mode ≡ None → length from.old.output.bytes ≤ moved_by from.old to.old mode →
-        to.old.input.bytes ≡ [] → fault_of result ≡ None }
+        to.old.input.bytes ≡ [] → from.old.chunked ≡ to.old.chunked → fault_of result ≡ None }
 {
     let (writer, reader) = (from.state(), to.state());
     if !writer.live || !reader.live {
