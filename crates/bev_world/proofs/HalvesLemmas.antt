@@ -14,7 +14,7 @@ use Rattle.bev_world.specs.WorldValue.{WorldValue, no_slot, slot_at, bev_at, wit
 use Rattle.bev_world.specs.WorldView.{Holds, IsSlot}
 use Rattle.bev_world.specs.Halves.{passed_on, appended, shortened, with_spare, count_with, count_without, WrittenTo, TakenFrom}
 use Rattle.bev_world.specs.Went.{Went}
-use Rattle.bev_world.proofs.HoldsLemmas.{holds-set, fits-with}
+use Rattle.bev_world.proofs.HoldsLemmas.{holds-set, fits-read, fits-with}
 use Rattle.bev_world.proofs.WentLemmas.{went_none, went_set, went_then, went_raised_if}
 
 -- what follows from a fact of an Ok and from one of an Err
@@ -120,6 +120,15 @@ own-spares w new from to n behind before apart from_there to_there is =
         sym (ap (λ ss. (slice_index_or ss to no_slot).bev.input.spare) slots_are
         ∙ ap (λ (s : Slot). s.bev.input.spare) (get_or-set_same (slice_set w.slots from f) to t no_slot
         (subst (λ c. to < c) (sym (length-set w.slots from f)) to_there)))
+
+-- what lies in another slot is chunked as what was taken out of its own
+pub alike : {chunked : Bool} {more cap : ℕ} (xs : List Slot) (es : List Entry) (spare from to : ℕ) (d e f t o : Slot) (taken : BevValue) →
+    Holds chunked xs es spare more cap → from ≢ to → from < length xs → to < length xs → f ≡ slice_index_or xs from d →
+    taken ≡ f.bev → t ≡ slice_index_or (slice_set xs from o) to e → taken.chunked ≡ t.bev.chunked
+alike xs es spare from to d e f t o taken h apart there to_there f_is taken_is t_is =
+    ap (λ (b : BevValue). b.chunked) taken_is ∙ (fits-read xs es spare from d f h there f_is).mode
+    ∙ sym (ap (λ (s : Slot). s.bev.chunked) (other-there xs from to o e t (λ x. apart (sym x)) to_there t_is)
+    ∙ (h.each to to_there).mode)
 
 -- What is known once both were written: f was taken out of the one slot while t was written, and l lay there then.
 pub record Passing (xs : List Slot) (from to n : ℕ) (f t l : Slot) (blank into left : BevValue) (room : ℕ) : Type 0 where

@@ -3,8 +3,15 @@ use Rattle.ev_types.specs.declared.why.Why.TheVariants as why
 use Rattle.bev_world.specs.WorldValue.{WorldValue, bev_at, raised_if}
 use Rattle.bev_world.specs.WorldView.{world_of}
 use Rattle.bev_world.specs.Halves.{passed_on}
-use Rattle.bev_world.proofs.HalvesLemmas.{Passing, passing, holds-passing, passes, own-spares}
+use Rattle.bev_world.proofs.HalvesLemmas.{alike, Passing, passing, holds-passing, passes, own-spares}
 use Rattle.bev_world.proofs.world.World.pass_on.Goals as goal
+
+pub pour-requires-clause-alike : goal.pour-requires-clause-alike
+pour-requires-clause-alike c =
+    let many = ap (λ (v : WorldValue). length v.slots) c.self.view_is in
+    alike c.self.inside.slots.items c.self.inside.due.pending c.self.inside.due.spare c.args.from c.args.to _ _ c.index_mut.result.now
+    c.index_mut-reader.result.now _ c.replace-writer.result c.self.invariant c.requires.apart (omega (arith, c.requires.there, many))
+    (omega (arith, c.requires.to_there, many)) c.index_mut.ensures.value c.replace-writer.ensures.value c.index_mut-reader.ensures.value
 
 pub invariant_of-self : goal.invariant_of-self
 invariant_of-self c =
