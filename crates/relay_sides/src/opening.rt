@@ -79,7 +79,8 @@ impl Sides {
 fn add_bevs(world: &mut World, side: NewSide, time: u64)
     requires room { 2 ≤ world.old.spare }
     requires numbers { length world.old.slots + 2 < 2 ^ 32 }
-    ensures slots { world.new.slots ≡ world.old.slots ++ side_slots time side (length world.old.slots) }
+    ensures slots { world.new.slots ≡ world.old.slots ++ side_slots world.old.chunked time side (length world.old.slots) }
+    ensures chunked { world.new.chunked ≡ world.old.chunked }
     ensures spare { world.new.spare ≡ world.old.spare - 2 }
 {
     let id = world.new_socket().unwrap();

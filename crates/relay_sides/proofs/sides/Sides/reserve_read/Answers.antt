@@ -4,7 +4,7 @@ use Rattle.ev_types.specs.Sides.{number}
 use Rattle.relay_model.specs.Plain.{PlainSide, no_side}
 use Rattle.relay_model.specs.Rooms.{most_at_once, mark_or}
 use Rattle.relay_state.specs.State.{Lane}
-use Rattle.bev_world.specs.WorldValue.{slot_at, bev_at}
+use Rattle.bev_world.specs.WorldValue.{WorldValue, slot_at, bev_at}
 use Rattle.relay_sides.specs.Bevs.{bevs_at}
 use Rattle.relay_sides.specs.SidesValue.{SidesValue}
 use Rattle.relay_sides.specs.SideView.{state_at, plain_at}
@@ -12,7 +12,8 @@ use Rattle.relay_sides.specs.SidesView.{CanRead}
 use Rattle.relay_sides.proofs.TableLemmas.{get-tabulate}
 use Rattle.relay_sides.proofs.BevsLemmas.{number-lt}
 use Rattle.relay_sides.proofs.SidesLemmas.{here, state_found}
-use Rattle.relay_sides.proofs.RoomLemmas.{Seen, quiet_links, quiet_sound, quiet_plain, upper_spared, lane_is, read_step_room, spare_here}
+use Rattle.relay_sides.proofs.RoomLemmas.{Seen, quiet_links, quiet_sound, sound_unread, quiet_plain, upper_spared, lane_is}
+use Rattle.relay_sides.proofs.RoomLemmas.{read_step_room, spare_here}
 use Rattle.relay_sides.proofs.sides.Sides.reserve_read.Goals as goal
 
 pub overflow_add-count : goal.overflow_add-count
@@ -40,7 +41,7 @@ invariant_of-self-in_err-reserve_step_at c =
     let q = upper_spared r.world w (number e) c.upper.result (bev_at w c.upper.result).input.spare c.upper.ensures
     (omega (arith, lt, c.self.invariant.slots)) c.reserve_step_at.ensures.stays in
     let s = quiet_sound r.world.slots w.slots r.sides.items q r c.self.invariant refl refl in
-    record { slots = s.slots; sides = s.sides; filters = s.filters; counted = s.counted; read_room = λ h. absurd (omega (arith, h)) }
+    sound_unread _ s (ap (λ (z : WorldValue). z.chunked) c.reserve_step_at.ensures.stays ∙ c.self.invariant.one_piece) refl
 
 pub returns-in_err-reserve_step_at-clause-links : goal.returns-in_err-reserve_step_at-clause-links
 returns-in_err-reserve_step_at-clause-links c =
@@ -61,7 +62,7 @@ invariant_of-self-in_err-reserve c =
     let q = upper_spared r.world w (number e) c.upper.result (bev_at w c.upper.result).input.spare c.upper.ensures
     (omega (arith, lt, c.self.invariant.slots)) c.reserve_step_at.ensures.stays in
     let s = quiet_sound r.world.slots w.slots r.sides.items q r c.self.invariant refl refl in
-    record { slots = s.slots; sides = s.sides; filters = s.filters; counted = s.counted; read_room = λ h. absurd (omega (arith, h)) }
+    sound_unread _ s (ap (λ (z : WorldValue). z.chunked) c.reserve_step_at.ensures.stays ∙ c.self.invariant.one_piece) refl
 
 pub returns-in_err-reserve-clause-links : goal.returns-in_err-reserve-clause-links
 returns-in_err-reserve-clause-links c =
@@ -104,6 +105,7 @@ invariant_of-self-3 c =
       sides = s.sides;
       filters = s.filters;
       counted = s.counted;
+      one_piece = ap (λ (z : WorldValue). z.chunked) c.reserve_step_at.ensures.stays ∙ c.self.invariant.one_piece;
       read_room = λ some. (
         omega (arith, lt, here_is),
         subst (λ (z : ℕ). CanRead (bevs_at w.slots z) (state_at r.sides.items z) (vec_capacity c.reserve_step_at.new.beside)
