@@ -1,4 +1,4 @@
-use Rattle.std.proofs.Common.{ℕ, ◌+◌, ◌*◌, ◌^◌, ◌<◌, length, refl, sym, ◌∙◌, ap, subst, arith}
+use Rattle.std.proofs.Common.{◌≡◌, ℕ, true, false, ◌+◌, ◌*◌, ◌^◌, ◌<◌, length, refl, sym, ◌∙◌, ap, subst, arith}
 use Rattle.std.specs.Prelude.{vec_capacity}
 use Rattle.ev_types.specs.Sides.{number}
 use Rattle.relay_model.specs.Plain.{PlainSide, no_side}
@@ -14,6 +14,7 @@ use Rattle.relay_sides.proofs.BevsLemmas.{number-lt}
 use Rattle.relay_sides.proofs.SidesLemmas.{here, state_found}
 use Rattle.relay_sides.proofs.RoomLemmas.{Seen, quiet_links, quiet_sound, sound_unread, quiet_plain, upper_spared, lane_is}
 use Rattle.relay_sides.proofs.RoomLemmas.{read_step_room, spare_here}
+use Rattle.relay_sides.proofs.ServeLemmas.{can_read, step_there}
 use Rattle.relay_sides.proofs.sides.Sides.reserve_read.Goals as goal
 
 pub overflow_add-count : goal.overflow_add-count
@@ -130,3 +131,43 @@ returns-clause-room c =
     let e = c.args.side in
     let lt = number-lt e r.opened (here c.args.self.now r c.self.view_is e c.requires) in
     spare_here r.opened (number e) c.number-self-inside.result c.args.room lt c.number-self-inside.ensures
+
+-- where the room is there, it can be counted
+pub returns-then-room-read-clause-there : goal.returns-then-room-read-clause-there
+returns-then-room-read-clause-there c = λ some le.
+    let r = c.self.inside in
+    let e = c.args.side in
+    let lt = number-lt e r.opened (here c.args.self.now r c.self.view_is e c.requires) in
+    let x = state_found r.sides.items (number e) c.number.result c.index-own.result.now c.number.ensures c.index-own.ensures
+    (omega (arith, lt, c.self.invariant.sides)) in
+    let can = can_read c.args.self.now r c.self.view_is e c.requires c.self.invariant c.args.room some le in
+    let read = ap (λ z. z.read) x in
+    let more = c.if-room-read.true in
+    absurd (omega (arith, can.counted, read, more))
+
+-- and there is room for the step
+pub returns-in_err-reserve_step_at-clause-there : goal.returns-in_err-reserve_step_at-clause-there
+returns-in_err-reserve_step_at-clause-there c = λ some le.
+    let r = c.self.inside in
+    let e = c.args.side in
+    let lt = number-lt e r.opened (here c.args.self.now r c.self.view_is e c.requires) in
+    let x = state_found r.sides.items (number e) c.number.result c.index-own.result.now c.number.ensures c.index-own.ensures
+    (omega (arith, lt, c.self.invariant.sides)) in
+    let raw = c.raw_input_len.ensures ∙ ap (λ (l : Lane). length l.buffers.raw_input)
+    (lane_is r.opened r.world.slots r.sides.items e (here c.args.self.now r c.self.view_is e c.requires)) in
+    let mark = c.read_mark-mark.ensures ∙ ap (λ (z : PlainSide). mark_or z.marks.read_high most_at_once)
+    (get-tabulate (plain_at r.world.slots r.sides.items) (2 * r.opened) (number e) no_side lt) in
+    let step = step_there c.args.self.now r c.self.view_is e c.requires c.self.invariant c.args.room some le c.upper.result
+    (c.raw_input_len.result + c.args.room) c.read_mark-mark.result c.index-own.result.now.read_made c.upper.ensures
+    (ap (λ z. z + c.args.room) raw) mark (ap (λ z. z.read_made) x) in
+    absurd (let wrong : false ≡ true = c.in_err-reserve_step_at.ensures.sure step in cc)
+
+-- and for the bytes
+pub returns-in_err-reserve-clause-there : goal.returns-in_err-reserve-clause-there
+returns-in_err-reserve-clause-there c = λ some le.
+    let r = c.self.inside in
+    let e = c.args.side in
+    let can = can_read c.args.self.now r c.self.view_is e c.requires c.self.invariant c.args.room some le in
+    let raw = c.raw_input_len.ensures ∙ ap (λ (l : Lane). length l.buffers.raw_input)
+    (lane_is r.opened r.world.slots r.sides.items e (here c.args.self.now r c.self.view_is e c.requires)) in
+    absurd (let wrong : false ≡ true = c.in_err-reserve.ensures.there (omega (arith, raw, can.kept)) in cc)
