@@ -78,11 +78,13 @@ module _ (dir : Dir) (limit : ℕ) (at_end : Bool) (at under : ℕ) (w : WorldVa
   upper_then : slice_index_or (slice_set w.slots under l) at no_slot ≡ upper
   upper_then = get_or-set_other w.slots under at l no_slot (λ e. absurd (let b = s.below in omega (arith, e, b)))
 
-  pub holds-stepped : (es : List Entry) (free more cap : ℕ) → Holds w.slots es free more cap → Holds ys es free more cap
-  holds-stepped es free more cap h = subst (λ zs. Holds zs es free more cap) (sym s.slots)
+  pub holds-stepped : (chunked : Bool) (es : List Entry) (free more cap : ℕ) → Holds chunked w.slots es free more cap →
+      Holds chunked ys es free more cap
+  holds-stepped chunked es free more cap h = subst (λ zs. Holds chunked zs es free more cap) (sym s.slots)
       (holds-with (slice_set w.slots under l) es free at no_slot upper u
-      (holds-with w.slots es free under no_slot lower l h under_there refl stays.0.kind (stays.0.room (h.each under under_there).room))
-      there_then (sym upper_then) stays.1.kind (stays.1.room (h.each at s.there).room))
+      (holds-with w.slots es free under no_slot lower l h under_there refl stays.0.kind stays.0.mode
+      (stays.0.room (h.each under under_there).room))
+      there_then (sym upper_then) stays.1.kind stays.1.mode (stays.1.room (h.each at s.there).room))
 
   pub crossed-stepped : (new : WorldValue) → new ≡ record w { slots = ys } →
       Crossed dir (stepping dir (crossing w dir at under) limit at_end) (crossing w dir at under) (crossing new dir at under)

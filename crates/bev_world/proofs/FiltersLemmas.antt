@@ -92,14 +92,15 @@ module _ (xs f b : List Slot) (at under : ℕ) (l o : Slot) (parts : xs ≡ f ++
 
 -- The two slots
 
--- the same kind, live as before, and enough room where there was enough
+-- the same kind, live and chunked as before, and enough room where there was enough
 pub record Stays (old new : Slot) : Type 0 where
   pub kind : new.kind ≡ old.kind
   pub live : new.bev.live ≡ old.bev.live
+  pub mode : new.bev.chunked ≡ old.bev.chunked
   pub room : old.room ≤ old.bev.input.spare → new.room ≤ new.bev.input.spare
 
 stays-same : (old new : Slot) → new ≡ old → Stays old new
-stays-same old new is = subst (λ s. Stays old s) (sym is) (record { kind = refl; live = refl; room = λ le. le })
+stays-same old new is = subst (λ s. Stays old s) (sym is) (record { kind = refl; live = refl; mode = refl; room = λ le. le })
 
 -- a buffer of a direction was written, and so no more than that is other
 other-in : (dir : Dir) (b new : BevValue) (h : Held) → new ≡ with_held b dir h → IsOtherIn dir b new
@@ -116,11 +117,13 @@ left-stays Read lower over l o after from_is to_is l_is o_is = (
   record {
     kind = ap (λ (z : Slot). z.kind) l_is;
     live = ap (λ (z : Slot). z.bev.live) l_is ∙ ap (λ z. z.live) from_is;
+    mode = ap (λ (z : Slot). z.bev.chunked) l_is ∙ ap (λ z. z.chunked) from_is;
     room = λ le. let none = ap (λ (z : Slot). z.room) l_is in omega (arith, none);
   },
   record {
     kind = ap (λ (z : Slot). z.kind) o_is;
     live = ap (λ (z : Slot). z.bev.live) o_is ∙ ap (λ z. z.live) to_is;
+    mode = ap (λ (z : Slot). z.bev.chunked) o_is ∙ ap (λ z. z.chunked) to_is;
     room = λ le. let none = ap (λ (z : Slot). z.room) o_is in omega (arith, none);
   },
 )
@@ -128,6 +131,7 @@ left-stays Write lower over l o after from_is to_is l_is o_is = (
   record {
     kind = ap (λ (z : Slot). z.kind) l_is;
     live = ap (λ (z : Slot). z.bev.live) l_is ∙ ap (λ z. z.live) to_is;
+    mode = ap (λ (z : Slot). z.bev.chunked) l_is ∙ ap (λ z. z.chunked) to_is;
     room = λ le.
         let room = ap (λ (z : Slot). z.room) l_is in
         let spare = ap (λ (z : Slot). z.bev.input.spare) l_is ∙ ap (λ z. z.input.spare) to_is in
@@ -136,6 +140,7 @@ left-stays Write lower over l o after from_is to_is l_is o_is = (
   record {
     kind = ap (λ (z : Slot). z.kind) o_is;
     live = ap (λ (z : Slot). z.bev.live) o_is ∙ ap (λ z. z.live) from_is;
+    mode = ap (λ (z : Slot). z.bev.chunked) o_is ∙ ap (λ z. z.chunked) from_is;
     room = λ le.
         let room = ap (λ (z : Slot). z.room) o_is in
         let spare = ap (λ (z : Slot). z.bev.input.spare) o_is ∙ ap (λ z. z.input.spare) from_is in
@@ -251,11 +256,13 @@ module _ (R : Going) (kept : Type 0) (dir : Dir) (at under : ℕ) (r : Result St
   over_then : slice_index_or (slice_set w.slots under l) at no_slot ≡ over
   over_then = get_or-set_other w.slots under at l no_slot (λ e. absurd (let b = s.below in omega (arith, e, b)))
 
-  pub holds-step : {more cap : ℕ} (es : List Entry) (spare : ℕ) → Holds w.slots es spare more cap → Holds ys es spare more cap
-  holds-step {more} {cap} es spare h = subst (λ zs. Holds zs es spare more cap) (sym s.slots)
+  pub holds-step : {chunked : Bool} {more cap : ℕ} (es : List Entry) (spare : ℕ) → Holds chunked w.slots es spare more cap →
+      Holds chunked ys es spare more cap
+  holds-step {chunked} {more} {cap} es spare h = subst (λ zs. Holds chunked zs es spare more cap) (sym s.slots)
       (holds-with (slice_set w.slots under l) es spare at no_slot over o
-      (holds-with w.slots es spare under no_slot lower l h under_there refl stays.0.kind (stays.0.room (h.each under under_there).room))
-      there_then (sym over_then) stays.1.kind (stays.1.room (h.each at s.there).room))
+      (holds-with w.slots es spare under no_slot lower l h under_there refl stays.0.kind stays.0.mode
+      (stays.0.room (h.each under under_there).room))
+      there_then (sym over_then) stays.1.kind stays.1.mode (stays.1.room (h.each at s.there).room))
 
   went_step : Went w (record w { slots = ys })
   went_step = subst (λ zs. Went w (record w { slots = zs })) (sym s.slots)

@@ -134,14 +134,14 @@ pub record Passing (xs : List Slot) (from to n : ℕ) (f t l : Slot) (blank into
   pub room_is : room ≡ t.room - n
 
 -- the same from what each step said
-pub passing : (xs : List Slot) (from to n : ℕ) (d e g f t l : Slot) (blank taken into left : BevValue) (room : ℕ) (front : List ℕ) →
+pub passing : (xs : List Slot) (from to n : ℕ) (d e g f t l : Slot) (blank taken into left : BevValue) (room : ℕ) →
     from ≢ to → from < length xs → to < length xs → f ≡ slice_index_or xs from d →
     t ≡ slice_index_or (slice_set xs from (record f { bev = blank })) to e →
     l ≡ slice_index_or (slice_set (slice_set xs from (record f { bev = blank })) to (record t { bev = into; room = room })) from g →
-    taken ≡ f.bev → front ≡ take n taken.output.bytes → into ≡ fed_reserved t.bev Read front →
+    taken ≡ f.bev → into ≡ fed_reserved t.bev Read (take n taken.output.bytes) →
     left ≡ record taken { output = less taken.output n left.output.spare } → room ≡ t.room - n →
     Passing xs from to n f t l blank into left room
-passing xs from to n d e g f t l blank taken into left room front apart from_there to_there f_is t_is l_is taken_is front_is into_is
+passing xs from to n d e g f t l blank taken into left room apart from_there to_there f_is t_is l_is taken_is into_is
     left_is room_is =
     record {
       apart = apart;
@@ -150,7 +150,7 @@ passing xs from to n d e g f t l blank taken into left room front apart from_the
       was_from = f_is ∙ get_or_default xs from d no_slot from_there;
       was_to = other-there xs from to (record f { bev = blank }) e t (λ x. apart (sym x)) to_there t_is;
       lay = still-out xs from to (record f { bev = blank }) (record t { bev = into; room = room }) g l apart from_there l_is;
-      into_is = into_is ∙ ap (λ bytes. fed_reserved t.bev Read bytes) (front_is ∙ ap (λ (b : BevValue). take n b.output.bytes) taken_is);
+      into_is = into_is ∙ ap (λ (b : BevValue). fed_reserved t.bev Read (take n b.output.bytes)) taken_is;
       left_is = left_is ∙ ap (λ (b : BevValue). record b { output = less b.output n left.output.spare }) taken_is;
       room_is = room_is;
     }
@@ -165,10 +165,10 @@ module _ (xs : List Slot) (from to n : ℕ) (f t l : Slot) (blank into left : Be
       from (record s { bev = left })) p.lay
       ∙ put-back xs from to (record f { bev = blank }) (record t { bev = into; room = room }) (record f { bev = left }) p.apart
 
-  pub holds-passing : {more cap : ℕ} (es : List Entry) (spare : ℕ) → Holds xs es spare more cap →
-      Holds (slice_set (slice_set (slice_set xs from (record f { bev = blank })) to (record t { bev = into; room = room })) from
+  pub holds-passing : {chunked : Bool} {more cap : ℕ} (es : List Entry) (spare : ℕ) → Holds chunked xs es spare more cap →
+      Holds chunked (slice_set (slice_set (slice_set xs from (record f { bev = blank })) to (record t { bev = into; room = room })) from
       (record l { bev = left })) es spare more cap
-  holds-passing {more} {cap} es spare h = subst (λ ss. Holds ss es spare more cap) (sym slots-back) second
+  holds-passing {chunked} {more} {cap} es spare h = subst (λ ss. Holds chunked ss es spare more cap) (sym slots-back) second
     where
       F : Slot
       F = record f { bev = left }
@@ -176,11 +176,11 @@ module _ (xs : List Slot) (from to n : ℕ) (f t l : Slot) (blank into left : Be
       T : Slot
       T = record t { bev = into; room = room }
 
-      fits_from : IsSlot (length xs) from f
-      fits_from = subst (IsSlot (length xs) from) (sym p.was_from) (h.each from p.from_there)
+      fits_from : IsSlot chunked (length xs) from f
+      fits_from = subst (IsSlot chunked (length xs) from) (sym p.was_from) (h.each from p.from_there)
 
-      fits_to : IsSlot (length xs) to t
-      fits_to = subst (IsSlot (length xs) to) (sym p.was_to) (h.each to p.to_there)
+      fits_to : IsSlot chunked (length xs) to t
+      fits_to = subst (IsSlot chunked (length xs) to) (sym p.was_to) (h.each to p.to_there)
 
       left_spare : left.input.spare ≡ f.bev.input.spare
       left_spare = ap (λ (b : BevValue). b.input.spare) p.left_is
@@ -189,16 +189,17 @@ module _ (xs : List Slot) (from to n : ℕ) (f t l : Slot) (blank into left : Be
       into_spare =
           ap (λ (b : BevValue). b.input.spare) p.into_is ∙ ap (λ k. t.bev.input.spare - k) (length-take n f.bev.output.bytes)
 
-      first : Holds (slice_set xs from F) es spare more cap
+      first : Holds chunked (slice_set xs from F) es spare more cap
       first = holds-set xs es spare from F h p.from_there
-          (fits-with (length xs) from f F fits_from refl (let r = fits_from.room in omega (arith, r, left_spare)))
+          (fits-with (length xs) from f F fits_from refl (ap (λ (b : BevValue). b.chunked) p.left_is)
+          (let r = fits_from.room in omega (arith, r, left_spare)))
 
-      fits_later : IsSlot (length (slice_set xs from F)) to t
-      fits_later = subst (λ c. IsSlot c to t) (sym (length-set xs from F)) fits_to
+      fits_later : IsSlot chunked (length (slice_set xs from F)) to t
+      fits_later = subst (λ c. IsSlot chunked c to t) (sym (length-set xs from F)) fits_to
 
-      second : Holds (slice_set (slice_set xs from F) to T) es spare more cap
+      second : Holds chunked (slice_set (slice_set xs from F) to T) es spare more cap
       second = holds-set (slice_set xs from F) es spare to T first (subst (λ c. to < c) (sym (length-set xs from F)) p.to_there)
-          (fits-with (length (slice_set xs from F)) to t T fits_later refl
+          (fits-with (length (slice_set xs from F)) to t T fits_later refl (ap (λ (b : BevValue). b.chunked) p.into_is)
           (let r = fits_to.room in let e = p.room_is in omega (arith, r, e, into_spare)))
 
 pub passes : (w : WorldValue) (from to n : ℕ) (f t l : Slot) (blank into left : BevValue) (room : ℕ) (reads writes : Bool) →

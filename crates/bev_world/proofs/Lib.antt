@@ -5,6 +5,7 @@ pub mod FreeLemmas
 pub mod HalvesLemmas
 pub mod Hearing
 pub mod HoldsLemmas
+pub mod MoveLemmas
 pub mod RoomLemmas
 pub mod StillDueLemmas
 pub mod Taken

@@ -9,22 +9,24 @@ use Rattle.ev_types.specs.declared.why.Why.{Why}
 use Rattle.ev_types.specs.declared.why.Why.TheVariants as why
 use Rattle.filter_model.specs.FilterStep.{begun}
 use Rattle.deferred_cb.specs.DueCalls.{Entry, Call, with_reason}
-use Rattle.bev_core.specs.BevValue.{BevValue, new_bev}
+use Rattle.bev_core.specs.BevValue.{BevValue, new_bev, new_chunked}
 use Rattle.bev_socket.specs.Rooms.{read_room, write_room}
 use Rattle.bev_world.specs.declared.slot.Kind.{Kind}
 use Rattle.bev_world.specs.declared.slot.Kind.TheVariants as kind
 use Rattle.bev_world.specs.declared.slot.Slot.{Slot}
 
 -- The bufferevents at their numbers, freed ones among them; the reasons that wait for the next batch; what is left of the batch
--- that runs; whether that batch was cut off by want of memory; and how many bufferevents more are made without taking memory.
+-- that runs; whether that batch was cut off by want of memory; how many bufferevents more are made without taking memory; and whether
+-- a buffer of its bufferevents may lie in several chunks.
 pub record WorldValue : Type 0 where
   pub slots : List Slot
   pub pending : List Entry
   pub batch : List Call
   pub cut : Bool
   pub spare : ℕ
+  pub chunked : Bool
 
--- a new bufferevent that this carries, with filters of these kinds
+-- a new bufferevent that this carries, with filters of these kinds, each of whose buffers lies in one piece
 abbrev pub new_slot : Kind → FilterKind → FilterKind → Slot
 new_slot k input output = record {
   bev = new_bev;
@@ -34,6 +36,10 @@ new_slot k input output = record {
   read_filter = begun input;
   write_filter = begun output;
 }
+
+-- a new one whose buffers may lie in several chunks, or not
+abbrev pub made_slot : Bool → Kind → FilterKind → FilterKind → Slot
+made_slot chunked k input output = record (new_slot k input output) { bev = new_chunked chunked }
 
 -- what an unknown number shows: a freed bufferevent
 abbrev pub no_slot : Slot
@@ -74,8 +80,9 @@ abbrev pub with_room : ℕ → WorldValue → WorldValue
 with_room more w = record w { spare = max w.spare more }
 
 -- both halves of a pair, of which the first has this number
-abbrev pub pair_slots : ℕ → List Slot
-pair_slots n = new_slot (kind.Half (n + 1)) filter.None filter.None ∷ new_slot (kind.Half n) filter.None filter.None ∷ []
+abbrev pub pair_slots : Bool → ℕ → List Slot
+pair_slots chunked n =
+    made_slot chunked (kind.Half (n + 1)) filter.None filter.None ∷ made_slot chunked (kind.Half n) filter.None filter.None ∷ []
 
 -- a filter was made over it
 abbrev pub with_taken : WorldValue → ℕ → WorldValue

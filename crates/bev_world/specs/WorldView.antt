@@ -9,7 +9,14 @@ use Rattle.bev_world.specs.declared.slot.Slot.{Slot}
 use Rattle.bev_world.specs.declared.world.World.TheInside as world
 
 abbrev pub world_of : world.Inside → WorldValue
-world_of w = record { slots = w.slots.items; pending = w.due.pending; batch = w.due.batch; cut = w.cut; spare = w.spare }
+world_of w = record {
+  slots = w.slots.items;
+  pending = w.due.pending;
+  batch = w.due.batch;
+  cut = w.cut;
+  spare = w.spare;
+  chunked = w.chunked;
+}
 
 -- how many of the first n numbers are not so
 abbrev pub lacking : ℕ → (ℕ → Bool) → ℕ
@@ -22,24 +29,26 @@ IsJoined count n kind.Socket = ⊤
 IsJoined count n (kind.Half other) = (other < count) × (other ≢ n)
 IsJoined count n (kind.Filter under) = under < n
 
--- a slot of so many, at this number
-pub record IsSlot (count n : ℕ) (s : Slot) : Type 0 where
+-- a slot of so many, at this number, in a world whose buffers may lie in several chunks, or not
+pub record IsSlot (chunked : Bool) (count n : ℕ) (s : Slot) : Type 0 where
   pub joined : IsJoined count n s.kind
   pub room : s.room ≤ s.bev.input.spare
+  pub mode : s.bev.chunked ≡ chunked
 
 -- a slot that comes to so many, at this number: a live one without sure room
-pub record IsNew (count n : ℕ) (s : Slot) : Type 0 where
+pub record IsNew (chunked : Bool) (count n : ℕ) (s : Slot) : Type 0 where
   pub joined : IsJoined count n s.kind
   pub live : s.bev.live ≡ true
   pub room : s.room ≡ 0
+  pub mode : s.bev.chunked ≡ chunked
 
 -- So many entries more can be made as `free` says. Every bufferevent without a pending entry has room for one, and so have so many
--- bufferevents more, which their slots have room for.
-pub record Holds (slots : List Slot) (pending : List Entry) (free more capacity : ℕ) : Type 0 where
+-- bufferevents more, which their slots have room for. The buffers of all of them may lie in several chunks, or none may.
+pub record Holds (chunked : Bool) (slots : List Slot) (pending : List Entry) (free more capacity : ℕ) : Type 0 where
   pub few : length slots < 2 ^ 32
   pub room : lacking (length slots) (λ n. has_entry n pending) + more ≤ free
   pub fits : length slots + more ≤ capacity
-  pub each : (n : ℕ) → n < length slots → IsSlot (length slots) n (slice_index_or slots n no_slot)
+  pub each : (n : ℕ) → n < length slots → IsSlot chunked (length slots) n (slice_index_or slots n no_slot)
 
 abbrev pub IsWorld : world.Inside → Type 0
-IsWorld w = Holds w.slots.items w.due.pending w.due.spare w.spare (vec_capacity w.slots)
+IsWorld w = Holds w.chunked w.slots.items w.due.pending w.due.spare w.spare (vec_capacity w.slots)

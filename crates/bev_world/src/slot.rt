@@ -1,6 +1,6 @@
 // One bufferevent of a world.
 ghost use Rattle.std.specs.Prelude.{◌≡◌};
-ghost use Rattle.bev_world.specs.WorldValue.{new_slot};
+ghost use Rattle.bev_world.specs.WorldValue.{made_slot};
 
 use bev_core::Bev;
 use ev_types::FilterKind;
@@ -34,12 +34,18 @@ pub struct Slot {
 }
 
 impl Slot {
-    /// A new bufferevent with filters of these kinds.
-    pub(crate) fn new(alloc: Global, kind: Kind, input: FilterKind, output: FilterKind) -> Slot
-        ensures { result ≡ new_slot kind input output }
+    /// A new bufferevent with filters of these kinds. Its buffers may lie in several chunks, or not, as said.
+    pub(crate) fn new(
+        alloc: Global,
+        chunked: bool,
+        kind: Kind,
+        input: FilterKind,
+        output: FilterKind,
+    ) -> Slot
+        ensures { result ≡ made_slot chunked kind input output }
     {
         Slot {
-            bev: Bev::fresh(alloc),
+            bev: Bev::made(alloc, chunked),
             kind,
             taken: false,
             room: 0,

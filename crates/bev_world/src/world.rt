@@ -5,6 +5,7 @@
 // 2. The other half of a half is another bufferevent, and what is under a filter was made before it.
 // 3. There is room for a pending entry of every bufferevent, so that no reason is lost.
 // 4. There is room for `spare` bufferevents more and for an entry of each, so that making them takes no memory.
+// 5. The buffers of all its bufferevents may lie in several chunks, or none may.
 ghost use Rattle.std.specs.Prelude.{◌≡◌, ◌≤◌, ◌<◌, ◌+◌, ◌-◌, ◌^◌, ◌++◌, ◌∷◌, ◌==◌, [], length, drop, take, min, true, false, Some, None};
 ghost use Rattle.std.specs.Prelude.{OnOk, OnErr, IfOk, IfSome, if◌then◌else◌, nat_lt};
 ghost use Rattle.std.specs.Bool.{then_some};
@@ -50,6 +51,7 @@ pub struct World {
     cut: bool,
     /// How many bufferevents more there is room for, at least.
     spare: usize,
+    chunked: bool,
 }
 
 impl Model for World {
@@ -65,11 +67,29 @@ impl Model for World {
 }
 
 impl World {
-    /// A world without a bufferevent. Takes no memory; constant cost.
+    /// A world without a bufferevent. A buffer of its bufferevents may lie in several chunks, as evbuffers do. Takes no memory; constant
+    /// cost.
     ///
     /// Own.
     pub fn new(alloc: Global) -> World
-        ensures { result ≡ record { slots = []; pending = []; batch = []; cut = false; spare = 0 } }
+        ensures { result ≡ record { slots = []; pending = []; batch = []; cut = false; spare = 0; chunked = true } }
+    {
+        World::empty(alloc, true)
+    }
+
+    /// A world without a bufferevent. Each buffer of its bufferevents lies in one piece, so that its bytes can be shown as they are, and
+    /// steps be made in room that was made before. Takes no memory; constant cost.
+    ///
+    /// Own.
+    pub fn in_one_piece(alloc: Global) -> World
+        ensures { result ≡ record { slots = []; pending = []; batch = []; cut = false; spare = 0; chunked = false } }
+    {
+        World::empty(alloc, false)
+    }
+
+    // A world without a bufferevent, whose buffers may lie in several chunks, or not.
+    fn empty(alloc: Global, chunked: bool) -> World
+        ensures { result ≡ record { slots = []; pending = []; batch = []; cut = false; spare = 0; chunked = chunked } }
     {
         World {
             alloc,
@@ -77,6 +97,7 @@ impl World {
             due: Due::new(alloc),
             cut: false,
             spare: 0,
+            chunked,
         }
     }
 

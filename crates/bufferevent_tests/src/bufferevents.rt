@@ -1,5 +1,6 @@
 // Two bufferevents between which bytes move: each call that can want memory answers something else with ample memory, and worked
 // lives. Both are lent, so that each is let go at one place.
+ghost use Rattle.std.specs.Prelude.{◌≡◌, false};
 
 use bev_core::{Bev, BevFault, Dir};
 use std::alloc::Global;
@@ -56,7 +57,10 @@ enum View {
 }
 
 /// Whether a call answers as it says, or what is seen is as it says.
-fn answers(from: &mut Bev, to: &mut Bev, act: Act) -> bool {
+fn answers(from: &mut Bev, to: &mut Bev, act: Act) -> bool
+    requires { from.old.chunked ≡ to.old.chunked }
+    ensures { from.new.chunked ≡ to.new.chunked }
+{
     match act {
         Act::Set(setting) => set(from, setting) == Ok(()),
         Act::Free(answer) => from.free() == answer,
@@ -72,7 +76,9 @@ fn answers(from: &mut Bev, to: &mut Bev, act: Act) -> bool {
     }
 }
 
-fn set(bev: &mut Bev, setting: Setting) -> Result<(), BevFault> {
+fn set(bev: &mut Bev, setting: Setting) -> Result<(), BevFault>
+    ensures { bev.new.chunked ≡ bev.old.chunked }
+{
     match setting {
         Setting::Write(bytes) => bev.write(bytes),
         Setting::Feed(dir, bytes) => bev.feed(dir, bytes),
@@ -95,44 +101,58 @@ fn sees(from: &Bev, to: &Bev, view: View) -> bool {
         View::Live(live) => state.live == live,
         View::Refs(refs) => state.refs == refs,
         View::OutputLength(len) => state.output == len,
-        View::Input(bytes) => from.front(Dir::Read, 9) == bytes,
-        View::Output(bytes) => from.front(Dir::Write, 9) == bytes,
-        View::OtherInput(bytes) => to.front(Dir::Read, 9) == bytes,
-        View::OtherOutput(bytes) => to.front(Dir::Write, 9) == bytes,
+        View::Input(bytes) => from.piece(Dir::Read) == Some(bytes),
+        View::Output(bytes) => from.piece(Dir::Write) == Some(bytes),
+        View::OtherInput(bytes) => to.piece(Dir::Read) == Some(bytes),
+        View::OtherOutput(bytes) => to.piece(Dir::Write) == Some(bytes),
     }
 }
 
-fn give_back(bev: &mut Bev) -> Result<(), BevFault> {
+fn give_back(bev: &mut Bev) -> Result<(), BevFault>
+    ensures { bev.new.chunked ≡ bev.old.chunked }
+{
     if bev.state().refs == 0 {
         return Err(BevFault::TooManyRefs);
     }
     bev.decref()
 }
 
-fn discard(bev: &mut Bev) -> bool {
+fn discard(bev: &mut Bev) -> bool
+    ensures { bev.new.chunked ≡ bev.old.chunked }
+{
     bev.discard();
     true
 }
 
-fn swap_across(from: &mut Bev, dir: Dir, to: &mut Bev) -> bool {
+fn swap_across(from: &mut Bev, dir: Dir, to: &mut Bev) -> bool
+    requires { from.old.chunked ≡ to.old.chunked }
+    ensures { from.new.chunked ≡ to.new.chunked }
+{
     from.swap_across(dir, to);
     true
 }
 
-fn feed_reserved(bev: &mut Bev, dir: Dir, bytes: &[u8]) -> Result<usize, BevFault> {
+fn feed_reserved(bev: &mut Bev, dir: Dir, bytes: &[u8]) -> Result<usize, BevFault>
+    ensures { bev.new.chunked ≡ bev.old.chunked }
+{
     bev.make_room(dir, bytes.len())?;
     bev.feed_reserved(dir, bytes);
     Ok(bev.len(dir))
 }
 
-fn pass_in_room(from: &mut Bev, dir: Dir, to: &mut Bev, n: usize) -> Result<usize, BevFault> {
+fn pass_in_room(from: &mut Bev, dir: Dir, to: &mut Bev, n: usize) -> Result<usize, BevFault>
+    requires { from.old.chunked ≡ to.old.chunked }
+    ensures { from.new.chunked ≡ to.new.chunked }
+{
     to.make_room(dir, n)?;
     from.pass_in_room(dir, to, n);
     Ok(to.len(dir))
 }
 
 /// The place of the first act that does not answer as it says.
-fn first_wrong(from: &mut Bev, to: &mut Bev, acts: &[Act]) -> Option<usize> {
+fn first_wrong(from: &mut Bev, to: &mut Bev, acts: &[Act]) -> Option<usize>
+    requires { from.old.chunked ≡ to.old.chunked }
+{
     for (place, act) in acts.iter().enumerate() {
         if !answers(from, to, *act) {
             return Some(place);
@@ -160,7 +180,9 @@ fn plays_beside(
     acts: &[Act],
     input: &[u8],
     output: &[u8],
-) -> Result<Option<usize>, BevFault> {
+) -> Result<Option<usize>, BevFault>
+    requires { to.old.chunked ≡ false }
+{
     to.feed(Dir::Read, input)?;
     to.write(output)?;
     let mut from = Bev::new(alloc)?;

@@ -1,5 +1,6 @@
 // Passages through a filter, also in two pieces of which the second is the last. The bufferevents are lent, so that each is let go
 // at one place.
+ghost use Rattle.std.specs.Prelude.{◌≡◌, false};
 
 use self::Answer::{Bad, Went};
 use bev_core::{Bev, Dir};
@@ -50,21 +51,24 @@ fn passes_anew(alloc: Global, kind: FilterKind, row: Row) -> bool {
     passes(&mut under, &mut over, &mut filter, row)
 }
 
-fn passes(under: &mut Bev, over: &mut Bev, filter: &mut AnyFilter, row: Row) -> bool {
+fn passes(under: &mut Bev, over: &mut Bev, filter: &mut AnyFilter, row: Row) -> bool
+    requires one_piece { under.old.chunked ≡ false }
+    requires over_one_piece { over.old.chunked ≡ false }
+{
     match row {
         Row::Up(first, last, limit, answer, made) => {
             pass_piece(under, over, filter, first, limit, Mode::Normal) == answer_of(Went(2, false))
                 && pass_piece(under, over, filter, last, limit, Mode::Finished) == answer_of(answer)
-                && over.front(Dir::Read, 9) == made.as_bytes()
+                && over.piece(Dir::Read) == Some(made.as_bytes())
         }
         Row::Down(text, answer, made) => {
             pass_output(under, over, filter, text) == answer_of(answer)
-                && under.front(Dir::Write, 9) == made.as_bytes()
+                && under.piece(Dir::Write) == Some(made.as_bytes())
         }
         Row::Steps(first, last, limit, count, left, made) => {
             steps(under, over, filter, first, last, limit) == Ok(count)
-                && under.front(Dir::Read, 9) == left.as_bytes()
-                && over.front(Dir::Read, 9) == made.as_bytes()
+                && under.piece(Dir::Read) == Some(left.as_bytes())
+                && over.piece(Dir::Read) == Some(made.as_bytes())
         }
     }
 }
@@ -107,7 +111,12 @@ fn steps(
     first: &str,
     last: &str,
     limit: usize,
-) -> Result<u64, NoMemory> {
+) -> Result<u64, NoMemory>
+    requires one_piece { under.old.chunked ≡ false }
+    requires over_one_piece { over.old.chunked ≡ false }
+    ensures one_piece { under.new.chunked ≡ false }
+    ensures over_one_piece { over.new.chunked ≡ false }
+{
     let made = step_piece(under, over, filter, first, limit, false, 0)?;
     step_piece(under, over, filter, last, limit, true, made)
 }
@@ -121,7 +130,12 @@ fn step_piece(
     limit: usize,
     last: bool,
     made: u64,
-) -> Result<u64, NoMemory> {
+) -> Result<u64, NoMemory>
+    requires one_piece { under.old.chunked ≡ false }
+    requires over_one_piece { over.old.chunked ≡ false }
+    ensures one_piece { under.new.chunked ≡ false }
+    ensures over_one_piece { over.new.chunked ≡ false }
+{
     under.make_room(Dir::Read, piece.len())?;
     under.feed_reserved(Dir::Read, piece.as_bytes());
     let mut beside = Vec::new(under.allocator());
@@ -138,7 +152,12 @@ fn step_beside(
     last: bool,
     beside: &mut Vec<u8>,
     made: u64,
-) -> Result<u64, NoMemory> {
+) -> Result<u64, NoMemory>
+    requires one_piece { under.old.chunked ≡ false }
+    requires over_one_piece { over.old.chunked ≡ false }
+    ensures one_piece { under.new.chunked ≡ false }
+    ensures over_one_piece { over.new.chunked ≡ false }
+{
     let count = under.len(Dir::Read);
     if filter.used() > u64::MAX - count as u64 {
         return Err(NoMemory);

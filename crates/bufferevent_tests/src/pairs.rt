@@ -23,7 +23,7 @@ fn answers(from: &mut Bev, to: &mut Bev, act: Act) -> bool {
         Act::Moves(mode, answer) => transfer(from, to, mode) == answer,
         Act::ReadsUpTo(high) => read_up_to(to, high) == Ok(()),
         Act::Free => to.free() == Ok(()),
-        Act::Input(bytes) => to.front(Dir::Read, 9) == bytes,
+        Act::Input(bytes) => to.piece(Dir::Read) == Some(bytes),
     }
 }
 

@@ -45,7 +45,7 @@ fn answers(bev: &mut Bev, act: Act) -> bool {
         Act::Ended(dir, flags) => ended(bev, dir) == flags,
         Act::Failed(dir, flags) => failed(bev, dir) == flags,
         Act::LastRead(now) => bev.state().last_read == now,
-        Act::Output(bytes) => bev.front(Dir::Write, 9) == bytes,
+        Act::Output(bytes) => bev.piece(Dir::Write) == Some(bytes),
         Act::Enabled(read, write) => (bev.state().reading, bev.state().writing) == (read, write),
         Act::Marked(end, fault) => (bev.state().ended, bev.state().failed) == (end, fault),
     }

@@ -1,5 +1,6 @@
 // What passes the filters of a world, by identifier and by number, and that each call answers. The worlds are lent, so that each is let
 // go at one place.
+ghost use Rattle.std.specs.Prelude.{◌≡◌, false};
 
 use self::Answer::{Bad, Went};
 use bev_world::{BevId, Dir, FilterKind, Mode, NoMemory, SpareRoom, Step, World, WorldFault};
@@ -65,7 +66,9 @@ fn over_socket(
     world: &mut World,
     input: FilterKind,
     output: FilterKind,
-) -> Result<(BevId, BevId), WorldFault> {
+) -> Result<(BevId, BevId), WorldFault>
+    ensures { world.new.chunked ≡ world.old.chunked }
+{
     let under = world.new_socket()?;
     let over = world.new_filter(under, input, output)?;
     Ok((under, over))
@@ -225,7 +228,10 @@ fn bytes_pass_a_filter_up_and_down(rt: HostRuntime) {
 }
 
 /// Brings bytes to a bufferevent, with room for its whole input made before.
-fn bring(world: &mut World, at: usize, bytes: &[u8]) -> Result<(), NoMemory> {
+fn bring(world: &mut World, at: usize, bytes: &[u8]) -> Result<(), NoMemory>
+    requires { world.old.chunked ≡ false }
+    ensures { world.new.chunked ≡ false }
+{
     if at >= world.count() {
         return Err(NoMemory);
     }
@@ -244,7 +250,10 @@ fn step(
     dir: Dir,
     limit: usize,
     beside: &mut Vec<u8>,
-) -> Result<u64, NoMemory> {
+) -> Result<u64, NoMemory>
+    requires { world.old.chunked ≡ false }
+    ensures { world.new.chunked ≡ false }
+{
     if at >= world.count() {
         return Err(NoMemory);
     }
@@ -263,7 +272,10 @@ fn step(
 }
 
 /// Moves an input to an output.
-fn move_on(world: &mut World, from: usize, to: usize) -> Result<(), NoMemory> {
+fn move_on(world: &mut World, from: usize, to: usize) -> Result<(), NoMemory>
+    requires { world.old.chunked ≡ false }
+    ensures { world.new.chunked ≡ false }
+{
     if from >= world.count() || to >= world.count() || from == to {
         return Err(NoMemory);
     }
@@ -292,7 +304,9 @@ fn relayed(
     down: FilterKind,
     bytes: &[u8],
     limit: usize,
-) -> Result<(u64, u64, [u8; 4]), WorldFault> {
+) -> Result<(u64, u64, [u8; 4]), WorldFault>
+    requires { world.old.chunked ≡ false }
+{
     let (socket, side) = over_socket(world, up, FilterKind::None)?;
     let (other_socket, other) = over_socket(world, FilterKind::None, down)?;
     bring(world, socket.0 as usize, bytes)?;
@@ -323,7 +337,7 @@ const WAYS: &[Way] = &[
 
 fn goes(alloc: Global, beside: &mut Vec<u8>, way: &Way) -> bool {
     let (up, down, bytes, limit, read, written, left) = *way;
-    let mut world = World::new(alloc);
+    let mut world = World::in_one_piece(alloc);
     let answer = relayed(&mut world, beside, up, down, bytes, limit);
     drop(world);
     answer == Ok((read, written, *left))
@@ -376,7 +390,10 @@ enum Act {
 }
 
 /// Whether what is seen is as it says; a step is made.
-fn answers(world: &mut World, id: BevId, act: Act) -> bool {
+fn answers(world: &mut World, id: BevId, act: Act) -> bool
+    requires { world.old.chunked ≡ false }
+    ensures { world.new.chunked ≡ false }
+{
     let at = id.0 as usize;
     let Some(state) = world.state(id) else {
         return false;
@@ -408,7 +425,10 @@ fn answers(world: &mut World, id: BevId, act: Act) -> bool {
     }
 }
 
-fn enable(world: &mut World, at: usize, dir: Dir) -> bool {
+fn enable(world: &mut World, at: usize, dir: Dir) -> bool
+    requires { world.old.chunked ≡ false }
+    ensures { world.new.chunked ≡ false }
+{
     if at >= world.count() {
         return false;
     }
@@ -416,7 +436,10 @@ fn enable(world: &mut World, at: usize, dir: Dir) -> bool {
     true
 }
 
-fn disable(world: &mut World, at: usize, dir: Dir) -> bool {
+fn disable(world: &mut World, at: usize, dir: Dir) -> bool
+    requires { world.old.chunked ≡ false }
+    ensures { world.new.chunked ≡ false }
+{
     if at >= world.count() {
         return false;
     }
@@ -424,7 +447,10 @@ fn disable(world: &mut World, at: usize, dir: Dir) -> bool {
     true
 }
 
-fn mark(world: &mut World, at: usize, dir: Dir, low: u64, high: u64) -> bool {
+fn mark(world: &mut World, at: usize, dir: Dir, low: u64, high: u64) -> bool
+    requires { world.old.chunked ≡ false }
+    ensures { world.new.chunked ≡ false }
+{
     if at >= world.count() {
         return false;
     }
@@ -432,7 +458,10 @@ fn mark(world: &mut World, at: usize, dir: Dir, low: u64, high: u64) -> bool {
     true
 }
 
-fn set_timeouts(world: &mut World, at: usize, read: u64, write: u64, now: u64) -> bool {
+fn set_timeouts(world: &mut World, at: usize, read: u64, write: u64, now: u64) -> bool
+    requires { world.old.chunked ≡ false }
+    ensures { world.new.chunked ≡ false }
+{
     if at >= world.count() {
         return false;
     }
@@ -440,7 +469,10 @@ fn set_timeouts(world: &mut World, at: usize, read: u64, write: u64, now: u64) -
     true
 }
 
-fn hold(world: &mut World, at: usize) -> bool {
+fn hold(world: &mut World, at: usize) -> bool
+    requires { world.old.chunked ≡ false }
+    ensures { world.new.chunked ≡ false }
+{
     if at >= world.count() || world.bev(at).references() == u32::MAX {
         return false;
     }
@@ -448,7 +480,10 @@ fn hold(world: &mut World, at: usize) -> bool {
     true
 }
 
-fn let_go(world: &mut World, at: usize) -> bool {
+fn let_go(world: &mut World, at: usize) -> bool
+    requires { world.old.chunked ≡ false }
+    ensures { world.new.chunked ≡ false }
+{
     if at >= world.count() || world.bev(at).references() == 0 {
         return false;
     }
@@ -456,7 +491,10 @@ fn let_go(world: &mut World, at: usize) -> bool {
     true
 }
 
-fn expire(world: &mut World, at: usize, dir: Dir) -> bool {
+fn expire(world: &mut World, at: usize, dir: Dir) -> bool
+    requires { world.old.chunked ≡ false }
+    ensures { world.new.chunked ≡ false }
+{
     if at >= world.count() {
         return false;
     }
@@ -464,7 +502,10 @@ fn expire(world: &mut World, at: usize, dir: Dir) -> bool {
     true
 }
 
-fn end(world: &mut World, at: usize, dir: Dir) -> bool {
+fn end(world: &mut World, at: usize, dir: Dir) -> bool
+    requires { world.old.chunked ≡ false }
+    ensures { world.new.chunked ≡ false }
+{
     if at >= world.count() {
         return false;
     }
@@ -472,7 +513,10 @@ fn end(world: &mut World, at: usize, dir: Dir) -> bool {
     true
 }
 
-fn free_alone(world: &mut World, at: usize) -> bool {
+fn free_alone(world: &mut World, at: usize) -> bool
+    requires { world.old.chunked ≡ false }
+    ensures { world.new.chunked ≡ false }
+{
     if at >= world.count() {
         return false;
     }
@@ -526,7 +570,10 @@ const ASKS: &[Act] = &[
 ];
 
 /// The place of the first step of a socket, or of what is seen of it, that is not as it says.
-fn first_wrong_step(world: &mut World, steps: &[Act]) -> Result<Option<usize>, WorldFault> {
+fn first_wrong_step(world: &mut World, steps: &[Act]) -> Result<Option<usize>, WorldFault>
+    requires { world.old.chunked ≡ false }
+    ensures { world.new.chunked ≡ false }
+{
     let id = world.new_socket()?;
     world.enable(id, Dir::Read)?;
     for (place, act) in steps.iter().enumerate() {
@@ -539,7 +586,7 @@ fn first_wrong_step(world: &mut World, steps: &[Act]) -> Result<Option<usize>, W
 
 #[test]
 fn steps_by_number_look_at_no_liveness(rt: HostRuntime) {
-    let mut world = World::new(rt.alloc());
+    let mut world = World::in_one_piece(rt.alloc());
     let wrong = first_wrong_step(&mut world, STEPS);
     let wrong_ask = first_wrong_step(&mut world, ASKS);
     drop(world);

@@ -40,6 +40,19 @@ impl World {
         &self.slots[at].bev
     }
 
+    /// All bytes of the buffer of a direction, a freed one's too, of which there are none. Asked that each buffer of the world lies in one
+    /// piece. Takes no memory; constant cost.
+    ///
+    /// Own.
+    pub fn bytes_at(&self, at: usize, dir: Dir) -> &[u8]
+        requires there { at < length self.now.slots }
+        requires one_piece { self.now.chunked ≡ false }
+        ensures { result.now ≡ (held (bev_at self.now at) dir).bytes }
+    {
+        let bev = &self.slots[at].bev;
+        bev.front(dir, bev.len(dir))
+    }
+
     /// The filter of a direction. One that is no filter bufferevent has filters that give every byte as it is. Takes no memory; constant
     /// cost.
     ///
@@ -175,12 +188,14 @@ impl World {
     }
 
     /// Copies bytes that were read to the end of the input, in room that it makes or takes, as `feed_with_spare` of bev_core, and makes the
-    /// moment the last activity of reading. No `feed` is sure of room there any more. Takes memory where the input has less room, and is
-    /// never refused; linear in the length of the bytes, and in that of the input where room is made.
+    /// moment the last activity of reading. No `feed` is sure of room there any more. Asked that each buffer of the world lies in one
+    /// piece. Takes memory where the input has less room, and is never refused; linear in the length of the bytes, and in that of the
+    /// input where room is made.
     ///
     /// Own.
     pub fn feed_at(&mut self, at: usize, bytes: &[u8], now: u64, spare: &mut SpareRoom)
         requires there { at < length self.old.slots }
+        requires one_piece { self.old.chunked ≡ false }
         requires room { length (bev_at self.old at).input.bytes + length bytes.now ≤ spare.old }
         ensures { self.new ≡ fed_with_spare self.old at bytes.now now (bev_at self.new at).input.spare }
     {
@@ -327,7 +342,7 @@ impl World {
     /// The step of a filter bufferevent, as `step_reserved` of bev_filter makes it, in room that was made before: what is read goes from
     /// the input of the one under it to its own input, what is written from its own output to the output of the one under it. No input to
     /// which bytes came or from which they went is sure to have room any more. Answers how many bytes were made by then, of which `made`
-    /// were made before. Takes no memory, and is never refused.
+    /// were made before. Asked that each buffer of the world lies in one piece. Takes no memory, and is never refused.
     ///
     /// Own.
     pub fn step_at(
@@ -342,6 +357,7 @@ impl World {
     ) -> u64
         requires there { at < length self.old.slots }
         requires below { under_of (slot_at self.old at).kind ≡ Some under }
+        requires one_piece { self.old.chunked ≡ false }
         requires counted { IsCounted dir (crossing self.old dir at under) }
         requires room { HasRoomFor dir (crossing self.old dir at under) limit (vec_capacity beside.old) made }
         ensures crossed { Crossed dir (stepping dir (crossing self.old dir at under) limit at_end) (crossing self.old dir at under)
@@ -359,6 +375,7 @@ fn swap_slots(slots: &mut [Slot], from: usize, to: usize)
     requires there { from < length slots.old }
     requires to_there { to < length slots.old }
     requires apart { from ≢ to }
+    requires alike { (slice_index_or slots.old from no_slot).bev.chunked ≡ (slice_index_or slots.old to no_slot).bev.chunked }
     ensures { slots.new ≡ slice_set (slice_set slots.old to
         (output_swapped (slice_index_or slots.old from no_slot) (slice_index_or slots.old to no_slot))) from
         (input_swapped (slice_index_or slots.old from no_slot) (slice_index_or slots.old to no_slot)) }
@@ -374,6 +391,7 @@ fn swap_slots(slots: &mut [Slot], from: usize, to: usize)
 
 // The input of the one and the output of the other are exchanged.
 fn swap_between(from: &mut Slot, to: &mut Slot)
+    requires { from.old.bev.chunked ≡ to.old.bev.chunked }
     ensures input { from.new ≡ input_swapped from.old to.old }
     ensures output { to.new ≡ output_swapped from.old to.old }
 {
@@ -394,6 +412,8 @@ fn step_slots(
 ) -> u64
     requires there { at < length slots.old }
     requires below { under < at }
+    requires one_piece { (slice_index_or slots.old at no_slot).bev.chunked ≡ false }
+    requires lower_one_piece { (slice_index_or slots.old under no_slot).bev.chunked ≡ false }
     requires counted { IsCounted dir (slots_crossing dir (slice_index_or slots.old under no_slot) (slice_index_or slots.old at no_slot)) }
     requires room { HasRoomFor dir (slots_crossing dir (slice_index_or slots.old under no_slot) (slice_index_or slots.old at no_slot))
         limit (vec_capacity beside.old) made }
@@ -428,6 +448,8 @@ fn step_between(
     beside: &mut Vec<u8>,
     made: u64,
 ) -> u64
+    requires one_piece { upper.old.bev.chunked ≡ false }
+    requires lower_one_piece { lower.old.bev.chunked ≡ false }
     requires counted { IsCounted dir (slots_crossing dir lower.old upper.old) }
     requires room { HasRoomFor dir (slots_crossing dir lower.old upper.old) limit (vec_capacity beside.old) made }
     ensures went { SlotsWent dir limit at_end lower.old upper.old lower.new upper.new }

@@ -207,12 +207,9 @@ impl World {
     {
         let mut writer = mem::replace(&mut self.slots[from].bev, blank);
         let reader = &mut self.slots[to];
-        reader
-            .bev
-            .feed_reserved(Dir::Read, writer.front(Dir::Write, n));
+        writer.pour(Dir::Write, &mut reader.bev, n);
         reader.room = reader.room.saturating_sub(n);
         let reads = is_due(&reader.bev, n, Dir::Read);
-        writer.drain(Dir::Write, n);
         let writes = is_due(&writer, n, Dir::Write);
         self.slots[from].bev = writer;
         self.raise_if(reads, to, Why::Read);

@@ -7,7 +7,7 @@ ghost use Rattle.bev_world.specs.declared.slot.Kind.TheVariants as kind_of;
 ghost use Rattle.bev_world.specs.declared.fault.WorldFault.TheVariants.{Memory};
 ghost use Rattle.bev_world.specs.Refusals.{ids_refusal, filter_refusal};
 ghost use Rattle.bev_world.specs.Went.{Went};
-ghost use Rattle.bev_world.specs.WorldValue.{new_slot, pair_slots, with_new, with_room, with_taken};
+ghost use Rattle.bev_world.specs.WorldValue.{made_slot, pair_slots, with_new, with_room, with_taken};
 
 use super::World;
 use crate::fault::WorldFault;
@@ -45,12 +45,14 @@ impl World {
         ensures answer { AnswersOr Memory result (ids_refusal self.old 1) }
         ensures sure { 1 ≤ self.old.spare → fault_of result ≡ ids_refusal self.old 1 }
         ensures id { IfOk result (λ id. id.0 ≡ length self.old.slots) }
-        ensures ok { OnOk result (self.new ≡ with_new (new_slot kind_of.Socket filter_of.None filter_of.None ∷ []) self.old) }
+        ensures ok { OnOk result (self.new
+            ≡ with_new (made_slot self.old.chunked kind_of.Socket filter_of.None filter_of.None ∷ []) self.old) }
         ensures err { OnErr result (self.new ≡ self.old) }
         ensures went { Went self.old self.new }
     {
         let number = self.next_number(1)?;
-        let slot = Slot::new(self.alloc, Kind::Socket, FilterKind::None, FilterKind::None);
+        let (no, none) = (FilterKind::None, FilterKind::None);
+        let slot = Slot::new(self.alloc, self.chunked, Kind::Socket, no, none);
         self.add(slot)?;
         Ok(BevId(number))
     }
@@ -63,15 +65,15 @@ impl World {
         ensures answer { AnswersOr Memory result (ids_refusal self.old 2) }
         ensures sure { 2 ≤ self.old.spare → fault_of result ≡ ids_refusal self.old 2 }
         ensures id { IfOk result (λ ids. (ids.0.0 ≡ length self.old.slots) × (ids.1.0 ≡ length self.old.slots + 1)) }
-        ensures ok { OnOk result (self.new ≡ with_new (pair_slots (length self.old.slots)) self.old) }
+        ensures ok { OnOk result (self.new ≡ with_new (pair_slots self.old.chunked (length self.old.slots)) self.old) }
         ensures err { OnErr result (self.new ≡ self.old) }
         ensures went { Went self.old self.new }
     {
         let first = self.next_number(2)?;
         let second = first + 1;
         let (no, none) = (FilterKind::None, FilterKind::None);
-        let one = Slot::new(self.alloc, Kind::Half(second), no, none);
-        let other = Slot::new(self.alloc, Kind::Half(first), no, none);
+        let one = Slot::new(self.alloc, self.chunked, Kind::Half(second), no, none);
+        let other = Slot::new(self.alloc, self.chunked, Kind::Half(first), no, none);
         self.add_two(one, other)?;
         Ok((BevId(first), BevId(second)))
     }
@@ -91,7 +93,8 @@ impl World {
         ensures answer { AnswersOr Memory result (filter_refusal self.old under.0) }
         ensures sure { 1 ≤ self.old.spare → fault_of result ≡ filter_refusal self.old under.0 }
         ensures id { IfOk result (λ id. id.0 ≡ length self.old.slots) }
-        ensures ok { OnOk result (self.new ≡ with_taken (with_new (new_slot (kind_of.Filter under.0) input output ∷ []) self.old) under.0) }
+        ensures ok { OnOk result (self.new
+            ≡ with_taken (with_new (made_slot self.old.chunked (kind_of.Filter under.0) input output ∷ []) self.old) under.0) }
         ensures err { OnErr result (self.new ≡ self.old) }
         ensures went { Went self.old self.new }
     {
@@ -100,7 +103,13 @@ impl World {
         if self.slots[at].taken {
             return Err(WorldFault::Taken);
         }
-        let slot = Slot::new(self.alloc, Kind::Filter(under.0), input, output);
+        let slot = Slot::new(
+            self.alloc,
+            self.chunked,
+            Kind::Filter(under.0),
+            input,
+            output,
+        );
         self.add(slot)?;
         self.slots[at].taken = true;
         Ok(BevId(number))
@@ -109,7 +118,7 @@ impl World {
     // Puts one slot behind the others, with room for what is due at it.
     fn add(&mut self, slot: Slot) -> Result<(), WorldFault>
         requires few { length self.old.slots + 1 < 2 ^ 32 }
-        requires fits { IsNew (length self.old.slots + 1) (length self.old.slots) slot }
+        requires fits { IsNew self.old.chunked (length self.old.slots + 1) (length self.old.slots) slot }
         ensures answer { AnswersOr Memory result None }
         ensures sure { 1 ≤ self.old.spare → fault_of result ≡ None }
         ensures ok { OnOk result (self.new ≡ with_new (slot ∷ []) self.old) }
@@ -125,8 +134,8 @@ impl World {
     // Puts two slots behind the others, as `add`.
     fn add_two(&mut self, slot: Slot, other: Slot) -> Result<(), WorldFault>
         requires few { length self.old.slots + 2 < 2 ^ 32 }
-        requires fits { IsNew (length self.old.slots + 2) (length self.old.slots) slot }
-        requires other_fits { IsNew (length self.old.slots + 2) (length self.old.slots + 1) other }
+        requires fits { IsNew self.old.chunked (length self.old.slots + 2) (length self.old.slots) slot }
+        requires other_fits { IsNew self.old.chunked (length self.old.slots + 2) (length self.old.slots + 1) other }
         ensures answer { AnswersOr Memory result None }
         ensures sure { 2 ≤ self.old.spare → fault_of result ≡ None }
         ensures ok { OnOk result (self.new ≡ with_new (slot ∷ other ∷ []) self.old) }

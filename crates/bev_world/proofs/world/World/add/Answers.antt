@@ -14,13 +14,13 @@ invariant_of-self c =
     let spare : c.self.inside.spare ≡ max c.args.self.now.spare 1 = ap (λ (v : WorldValue). v.spare) is in
     let v = c.self.invariant in
     let all = pushed ss c.push.new.self.items c.args.slot c.push.result _ c.push.ensures.items c.unwrap.ensures in
-    subst (λ (z : List Slot). Holds z c.self.inside.due.pending c.self.inside.due.spare (c.self.inside.spare - 1)
+    subst (λ (z : List Slot). Holds c.self.inside.chunked z c.self.inside.due.pending c.self.inside.due.spare (c.self.inside.spare - 1)
     (vec_capacity c.push.new.self))
     (sym all)
     (holds_one ss c.self.inside.due.pending c.self.inside.due.spare (c.self.inside.spare - 1) (vec_capacity c.push.new.self) c.args.slot
     v.each (omega (arith, c.requires.few, ap length same)) (omega (arith, v.room, spare))
     (omega (arith, v.fits, spare, c.push.ensures.capacity))
-    (subst (λ (z : List Slot). IsNew (length z + 1) (length z) c.args.slot) (sym same) c.requires.fits))
+    (subst (λ (v : WorldValue). IsNew v.chunked (length v.slots + 1) (length v.slots) c.args.slot) (sym is) c.requires.fits))
 
 pub returns-clause-went : goal.returns-clause-went
 returns-clause-went c =

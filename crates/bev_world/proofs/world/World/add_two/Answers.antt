@@ -18,14 +18,14 @@ invariant_of-self c =
     c.unwrap-2.ensures in
     let all : c.push-2.new.self.items ≡ ss ++ c.args.slot ∷ c.args.other ∷ [] =
     second ∙ ap (λ (z : List Slot). z ++ c.args.other ∷ []) first ∙ append_assoc ss (c.args.slot ∷ []) (c.args.other ∷ []) in
-    subst (λ (z : List Slot). Holds z c.self.inside.due.pending c.self.inside.due.spare (c.self.inside.spare - 2)
+    subst (λ (z : List Slot). Holds c.self.inside.chunked z c.self.inside.due.pending c.self.inside.due.spare (c.self.inside.spare - 2)
     (vec_capacity c.push-2.new.self))
     (sym all)
     (holds_two ss c.self.inside.due.pending c.self.inside.due.spare (c.self.inside.spare - 2) (vec_capacity c.push-2.new.self) c.args.slot
     c.args.other v.each (omega (arith, c.requires.few, ap length same)) (omega (arith, v.room, spare))
     (omega (arith, v.fits, spare, c.push.ensures.capacity, c.push-2.ensures.capacity))
-    (subst (λ (z : List Slot). IsNew (length z + 2) (length z) c.args.slot) (sym same) c.requires.fits)
-    (subst (λ (z : List Slot). IsNew (length z + 2) (length z + 1) c.args.other) (sym same) c.requires.other_fits))
+    (subst (λ (v : WorldValue). IsNew v.chunked (length v.slots + 2) (length v.slots) c.args.slot) (sym is) c.requires.fits)
+    (subst (λ (v : WorldValue). IsNew v.chunked (length v.slots + 2) (length v.slots + 1) c.args.other) (sym is) c.requires.other_fits))
 
 pub returns-clause-went : goal.returns-clause-went
 returns-clause-went c =

@@ -24,7 +24,8 @@ invariant_of-self g c =
     slots-step R kept c.args.dir c.args.at c.args.under c.pass_slots-answer.result.0 w.slots c.deref_mut.result.now ys
     c.pass_slots-answer.result.1 c.deref_mut.ensures.value (omega (arith, c.requires.there, many)) c.requires.below
     c.pass_slots-answer.ensures.passed c.pass_slots-answer.ensures.slots in
-    subst (λ zs. Holds zs c.self.inside.due.pending c.self.inside.due.spare c.self.inside.spare (vec_capacity c.self.inside.slots))
+    subst (λ zs. Holds c.self.inside.chunked zs c.self.inside.due.pending c.self.inside.due.spare c.self.inside.spare
+    (vec_capacity c.self.inside.slots))
     (sym whole)
     (holds-step R kept c.args.dir c.args.at c.args.under c.pass_slots-answer.result.0 w ys c.pass_slots-answer.result.1 s
     c.self.inside.due.pending c.self.inside.due.spare c.self.invariant)

@@ -11,11 +11,11 @@ invariant_of-self c =
     let w : WorldValue = world_of c.self.inside in
     let many = ap (λ (v : WorldValue). length v.slots) c.self.view_is in
     let p : Passing w.slots c.args.from c.args.to c.args.n c.index_mut.result.now c.index_mut-reader.result.now c.index_mut-2.result.now
-    c.replace-writer.new.dest c.feed_reserved.new.self c.drain.new.self c.saturating_sub-reader.result =
-    passing w.slots c.args.from c.args.to c.args.n _ _ _ _ _ _ _ c.replace-writer.result _ _ _ c.front.result.now c.requires.apart
+    c.replace-writer.new.dest c.pour.new.to c.pour.new.self c.saturating_sub-reader.result =
+    passing w.slots c.args.from c.args.to c.args.n _ _ _ _ _ _ _ c.replace-writer.result _ _ _ c.requires.apart
     (omega (arith, c.requires.there, many)) (omega (arith, c.requires.to_there, many)) c.index_mut.ensures.value
-    c.index_mut-reader.ensures.value c.index_mut-2.ensures.value c.replace-writer.ensures.value c.front.ensures
-    c.feed_reserved.ensures c.drain.ensures.bytes c.saturating_sub-reader.ensures in
+    c.index_mut-reader.ensures.value c.index_mut-2.ensures.value c.replace-writer.ensures.value
+    c.pour.ensures.given c.pour.ensures.left c.saturating_sub-reader.ensures in
     holds-passing w.slots c.args.from c.args.to c.args.n _ _ _ _ _ _ _ p c.self.inside.due.pending c.self.inside.due.spare c.self.invariant
 
 pub returns : goal.returns
@@ -24,12 +24,12 @@ returns c =
     let new : WorldValue = c.raise_if-2.new.self in
     let many = ap (λ (v : WorldValue). length v.slots) c.self.view_is in
     let p : Passing w.slots c.args.from c.args.to c.args.n c.index_mut.result.now c.index_mut-reader.result.now c.index_mut-2.result.now
-    c.replace-writer.new.dest c.feed_reserved.new.self c.drain.new.self c.saturating_sub-reader.result =
-    passing w.slots c.args.from c.args.to c.args.n _ _ _ _ _ _ _ c.replace-writer.result _ _ _ c.front.result.now c.requires.apart
+    c.replace-writer.new.dest c.pour.new.to c.pour.new.self c.saturating_sub-reader.result =
+    passing w.slots c.args.from c.args.to c.args.n _ _ _ _ _ _ _ c.replace-writer.result _ _ _ c.requires.apart
     (omega (arith, c.requires.there, many)) (omega (arith, c.requires.to_there, many)) c.index_mut.ensures.value
-    c.index_mut-reader.ensures.value c.index_mut-2.ensures.value c.replace-writer.ensures.value c.front.ensures
-    c.feed_reserved.ensures c.drain.ensures.bytes c.saturating_sub-reader.ensures in
-    let is : new ≡ passed_on w c.args.from c.args.to c.args.n c.drain.new.self.output.spare c.feed_reserved.new.self.input.spare =
+    c.index_mut-reader.ensures.value c.index_mut-2.ensures.value c.replace-writer.ensures.value
+    c.pour.ensures.given c.pour.ensures.left c.saturating_sub-reader.ensures in
+    let is : new ≡ passed_on w c.args.from c.args.to c.args.n c.pour.new.self.output.spare c.pour.new.to.input.spare =
     c.raise_if-2.ensures ∙ ap (λ v. raised_if c.is_due-writes.result v c.args.from why.Write) c.raise_if.ensures
     ∙ passes w c.args.from c.args.to c.args.n _ _ _ _ _ _ _ c.is_due-reads.result c.is_due-writes.result p c.is_due-reads.ensures
     c.is_due-writes.ensures in

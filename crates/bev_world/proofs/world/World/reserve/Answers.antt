@@ -24,7 +24,7 @@ pub invariant_of-self-2 : goal.invariant_of-self-2
 invariant_of-self-2 c =
     let ss = c.self.inside.slots.items in
     let next = c.reserve.new.self in
-    subst (λ (z : List Slot). Holds z next.pending next.spare c.args.more (vec_capacity c.reserve-2.new.self))
+    subst (λ (z : List Slot). Holds c.self.inside.chunked z next.pending next.spare c.args.more (vec_capacity c.reserve-2.new.self))
     (sym c.reserve-2.ensures.items)
     (holds-room ss c.self.inside.due.pending next.pending c.self.inside.due.spare next.spare c.args.more (vec_capacity c.reserve-2.new.self)
     c.self.invariant (search rules) (search rules))

@@ -24,10 +24,11 @@ invariant_of-self c =
     let s : StepIn c.args.dir c.args.limit c.args.at_end c.args.at c.args.under w.slots ys =
     step-in c.args.dir c.args.limit c.args.at_end c.args.at c.args.under w.slots c.deref_mut.result.now ys c.deref_mut.ensures.value
     there below c.step_slots.ensures.went c.step_slots.ensures.slots in
-    subst (λ zs. Holds zs c.self.inside.due.pending c.self.inside.due.spare c.self.inside.spare (vec_capacity c.self.inside.slots))
+    subst (λ zs. Holds c.self.inside.chunked zs c.self.inside.due.pending c.self.inside.due.spare c.self.inside.spare
+    (vec_capacity c.self.inside.slots))
     (sym whole)
-    (holds-stepped c.args.dir c.args.limit c.args.at_end c.args.at c.args.under w ys s c.self.inside.due.pending c.self.inside.due.spare
-    c.self.inside.spare (vec_capacity c.self.inside.slots) c.self.invariant)
+    (holds-stepped c.args.dir c.args.limit c.args.at_end c.args.at c.args.under w ys s c.self.inside.chunked
+    c.self.inside.due.pending c.self.inside.due.spare c.self.inside.spare (vec_capacity c.self.inside.slots) c.self.invariant)
 
 pub returns-clause-crossed : goal.returns-clause-crossed
 returns-clause-crossed c =
