@@ -20,15 +20,16 @@ use Rattle.relay_sides.proofs.ChangeLemmas.{counted-alike, filters-last}
 use Rattle.relay_sides.proofs.SidesLemmas.{here, state_found, side_changed}
 
 -- What is so of the sides stays so with these bufferevents and this beside them, where there is no room for a read.
-pub are_sound : (r s : Inside) → AreSides r → s.opened ≡ r.opened → s.readable ≡ 0 →
+pub are_sound : (r s : Inside) → AreSides r → s.opened ≡ r.opened → s.readable ≡ 0 → s.world.chunked ≡ r.world.chunked →
     Lasting r.world.slots s.world.slots r.sides.items s.sides.items →
     ((m : ℕ) → m < 2 * r.opened → IsCounted (flow_at s.world.slots s.sides.items m) (lane_at s.world.slots s.sides.items m)) → AreSides s
-are_sound r s h opened unready l counted = record {
+are_sound r s h opened unready chunked l counted = record {
   slots = l.slots ∙ h.slots ∙ ap (λ n. 4 * n) (sym opened);
   sides = l.sides ∙ h.sides ∙ ap (λ n. 2 * n) (sym opened);
   filters = λ n lt. filters-last r.world.slots s.world.slots r.sides.items s.sides.items (2 * r.opened) l h.filters n
       (omega (arith, lt, opened));
   counted = λ n lt. counted n (omega (arith, lt, opened));
+  one_piece = chunked ∙ h.one_piece;
   read_room = λ some. absurd (omega (arith, some, unready));
 }
 
@@ -104,7 +105,8 @@ module _ (v : SidesValue) (r : Inside) (is : sides_of r ≡ v) (sound : AreSides
 
     pub bev_sound : AreSides (record r { world = w; readable = 0 })
     bev_sound = are_sound r (record r { world = w; readable = 0 })
-        sound refl refl (bev_lasting K refl) (counted-alike S w.slots K K (bev_alike K (λ m. refl)) (2 * r.opened) sound.counted)
+        sound refl refl (ap (λ (z : WorldValue). z.chunked) w_is) (bev_lasting K refl)
+        (counted-alike S w.slots K K (bev_alike K (λ m. refl)) (2 * r.opened) sound.counted)
 
     -- together with what is kept beside it
     module _ (j : ℕ) (j_is : j ≡ number e) (x y : SideState) (x_is : x ≡ get_or r.sides.items j x)

@@ -150,6 +150,7 @@ module _ (v : SidesValue) (r : Inside) (is : sides_of r ≡ v) (sound : AreSides
           slots = sound.slots;
           sides = many ∙ sound.sides;
           filters = sound.filters;
+          one_piece = sound.one_piece;
           counted = λ m h.
               subst (λ z. IsCounted (flow_at S z m) (lane_at S z m)) (sym is) (limit_counted m h);
           read_room = λ some.

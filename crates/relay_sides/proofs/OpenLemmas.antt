@@ -14,7 +14,7 @@ use Rattle.ev_types.specs.declared.filter.FilterKind.TheVariants as kind
 use Rattle.token_bucket.specs.declared.limit.LimitCfg.{LimitCfg}
 use Rattle.bev_core.specs.BevValue.{BevValue}
 use Rattle.bev_core.specs.Steps.{with_enabled, with_marks, with_timeouts}
-use Rattle.bev_world.specs.WorldValue.{WorldValue, no_slot, new_slot, bev_at, with_slot, with_bev, with_new, with_taken, with_room}
+use Rattle.bev_world.specs.WorldValue.{WorldValue, no_slot, made_slot, bev_at, with_slot, with_bev, with_new, with_taken, with_room}
 use Rattle.bev_world.specs.declared.slot.Slot.{Slot}
 use Rattle.bev_world.specs.declared.slot.Kind.TheVariants.{Socket, Filter}
 use Rattle.relay_model.specs.Flow.{Flow, no_flow}
@@ -43,11 +43,16 @@ when_ok P r x e h = subst (λ z. OnOk z P) e h
 pub known_ok : {T E : Type 0} (P : T → Type 0) (r : Result T E) (x : T) → r ≡ Ok x → IfOk r P → P x
 known_ok P r x e h = subst (λ z. IfOk z P) e h
 
--- room that is made changes no slot
+-- room that is made changes no slot, and not whether buffers may lie in several chunks
 pub slots_reserved : {T E : Type 0} (more : ℕ) (w new : WorldValue) (r : Result T E) → OnOk r (new ≡ with_room more w) →
     OnErr r (new ≡ w) → new.slots ≡ w.slots
 slots_reserved more w new (Ok x) a b = ap (λ (z : WorldValue). z.slots) a
 slots_reserved more w new (Err d) a b = ap (λ (z : WorldValue). z.slots) b
+
+pub chunked_reserved : {T E : Type 0} (more : ℕ) (w new : WorldValue) (r : Result T E) → OnOk r (new ≡ with_room more w) →
+    OnErr r (new ≡ w) → new.chunked ≡ w.chunked
+chunked_reserved more w new (Ok x) a b = ap (λ (z : WorldValue). z.chunked) a
+chunked_reserved more w new (Err d) a b = ap (λ (z : WorldValue). z.chunked) b
 
 -- The two bufferevents of a side
 
@@ -81,15 +86,15 @@ module _ (w0 : WorldValue) where
       ∙ set-append_seam w0.slots s (x ∷ []) (record s { taken = true })
 
   pub bevs_added : (w1 w2 w3 w4 w5 w6 : WorldValue) (time : ℕ) (side : NewSide) (n : ℕ) → n ≡ length w0.slots →
-      w1 ≡ with_new (new_slot Socket kind.None kind.None ∷ []) w0 →
+      w1 ≡ with_new (made_slot w0.chunked Socket kind.None kind.None ∷ []) w0 →
       w2 ≡ with_bev w1 n (with_enabled (bev_at w1 n) Read true) →
       w3 ≡ with_bev w2 n (with_marks (bev_at w2 n) Read side.marks.read_low side.marks.read_high) →
       w4 ≡ with_bev w3 n (with_marks (bev_at w3 n) Write side.marks.write_low side.marks.write_high) →
       w5 ≡ with_bev w4 n (with_timeouts (bev_at w4 n) side.timeouts.read_ms side.timeouts.write_ms time) →
-      w6 ≡ with_taken (with_new (new_slot (Filter n) side.read side.write ∷ []) w5) n →
-      w6.slots ≡ w0.slots ++ side_slots time side (length w0.slots)
+      w6 ≡ with_taken (with_new (made_slot w5.chunked (Filter n) side.read side.write ∷ []) w5) n →
+      w6.slots ≡ w0.slots ++ side_slots w0.chunked time side (length w0.slots)
   bevs_added w1 w2 w3 w4 w5 w6 time side n h e1 e2 e3 e4 e5 e6 =
-      let s1 : Slot = new_slot Socket kind.None kind.None in
+      let s1 : Slot = made_slot w0.chunked Socket kind.None kind.None in
       let f2 : BevValue → BevValue = λ b. with_enabled b Read true in
       let f3 : BevValue → BevValue = λ b. with_marks b Read side.marks.read_low side.marks.read_high in
       let f4 : BevValue → BevValue = λ b. with_marks b Write side.marks.write_low side.marks.write_high in
@@ -103,8 +108,16 @@ module _ (w0 : WorldValue) where
       let g4 = next w3 w4 n s3 f4 h g3 e4 in
       let g5 = next w4 w5 n s4 f5 h g4 e5 in
       ap (λ (w : WorldValue). w.slots) e6
-      ∙ (λ i. (with_taken (with_new (new_slot (Filter (h i)) side.read side.write ∷ []) (g5 i)) (h i)).slots)
-      ∙ taken_behind s5 (new_slot (Filter place) side.read side.write)
+      ∙ (λ i. (with_taken (with_new (made_slot (g5 i).chunked (Filter (h i)) side.read side.write ∷ []) (g5 i)) (h i)).slots)
+      ∙ taken_behind s5 (made_slot w0.chunked (Filter place) side.read side.write)
+
+  -- and whether buffers may lie in several chunks stays
+  pub chunked_kept : (w1 w2 w3 w4 w5 w6 : WorldValue) (s x : Slot) (n : ℕ) (b2 b3 b4 b5 : BevValue) → w1 ≡ with_new (s ∷ []) w0 →
+      w2 ≡ with_bev w1 n b2 → w3 ≡ with_bev w2 n b3 → w4 ≡ with_bev w3 n b4 → w5 ≡ with_bev w4 n b5 →
+      w6 ≡ with_taken (with_new (x ∷ []) w5) n → w6.chunked ≡ w0.chunked
+  chunked_kept w1 w2 w3 w4 w5 w6 s x n b2 b3 b4 b5 e1 e2 e3 e4 e5 e6 =
+      let f : WorldValue → Bool = λ w. w.chunked in
+      ap f e6 ∙ ap f e5 ∙ ap f e4 ∙ ap f e3 ∙ ap f e2 ∙ ap f e1
 
 -- A limit as it opens, and its buckets
 
@@ -129,7 +142,7 @@ module _ (o : ℕ) (S : List Slot) (K : List SideState) (slots : length S ≡ 4 
     ≡ first_kept time turn far.limit) where
   -- its bufferevents
   abbrev pub more_slots : List Slot
-  more_slots = side_slots time near (4 * o) ++ side_slots time far (4 * o + 2)
+  more_slots = side_slots false time near (4 * o) ++ side_slots false time far (4 * o + 2)
 
   abbrev more : List SideState
   more = more_sides near far near_limit far_limit
@@ -314,15 +327,16 @@ module _ (o : ℕ) (S : List Slot) (K : List SideState) (slots : length S ≡ 4 
       )
 
 -- What the code keeps stays sound where its slots, its states and the rest are as they were.
-pub sound_kept : (r : Inside) (w : WorldValue) (k : Vec SideState) → w.slots ≡ r.world.slots → k.items ≡ r.sides.items → AreSides r →
-    AreSides (record r { world = w; sides = k })
-sound_kept r w k a b sound = record {
+pub sound_kept : (r : Inside) (w : WorldValue) (k : Vec SideState) → w.slots ≡ r.world.slots →
+    w.chunked ≡ r.world.chunked → k.items ≡ r.sides.items → AreSides r → AreSides (record r { world = w; sides = k })
+sound_kept r w k a chunked b sound = record {
   slots = ap length a ∙ sound.slots;
   sides = ap length b ∙ sound.sides;
   filters = λ n h. ap (λ (S : List Slot). (bevs_at S n).upper.kind) a ∙ sound.filters n h;
   counted = λ n h.
       subst (λ (K : List SideState). IsCounted (flow_at w.slots K n) (lane_at w.slots K n)) (sym b)
       (subst (λ (S : List Slot). IsCounted (flow_at S r.sides.items n) (lane_at S r.sides.items n)) (sym a) (sound.counted n h));
+  one_piece = chunked ∙ sound.one_piece;
   read_room = λ h. (
     (sound.read_room h).0,
     subst (λ (K : List SideState). CanRead (bevs_at w.slots r.ready) (state_at K r.ready) (vec_capacity r.beside) r.spare r.readable)
@@ -337,13 +351,14 @@ pub sound_more : (r : Inside) (w : WorldValue) (k : Vec SideState) (time turn : 
     (near_limit far_limit : Option (Box LimitValue Global))
     (near_is : kept_value near_limit ≡ first_kept time turn near.limit) (far_is : kept_value far_limit ≡ first_kept time turn far.limit)
     (sound : AreSides r) →
-    w.slots ≡ r.world.slots ++ (side_slots time near (4 * r.opened) ++ side_slots time far (4 * r.opened + 2)) →
+    w.slots ≡ r.world.slots ++ (side_slots false time near (4 * r.opened) ++ side_slots false time far (4 * r.opened + 2)) →
+    w.chunked ≡ r.world.chunked →
     k.items ≡ r.sides.items ++ more_sides near far near_limit far_limit →
     AreSides (record r { opened = r.opened + 1; world = w; sides = k })
-sound_more r w k time turn near far near_limit far_limit near_is far_is sound a b =
+sound_more r w k time turn near far near_limit far_limit near_is far_is sound a chunked b =
     let S : List Slot = r.world.slots in
     let K : List SideState = r.sides.items in
-    let more : List Slot = side_slots time near (4 * r.opened) ++ side_slots time far (4 * r.opened + 2) in
+    let more : List Slot = side_slots false time near (4 * r.opened) ++ side_slots false time far (4 * r.opened + 2) in
     let states : List SideState = more_sides near far near_limit far_limit in
     record {
       slots = ap length a ∙ length-append S more ∙ (let h : length S + 4 ≡ 4 * (r.opened + 1) = omega (arith, sound.slots) in h);
@@ -355,6 +370,7 @@ sound_more r w k time turn near far near_limit far_limit near_is far_is sound a 
           subst (λ (K : List SideState). IsCounted (flow_at w.slots K n) (lane_at w.slots K n)) (sym b)
           (subst (λ (S : List Slot). IsCounted (flow_at S (K ++ states) n) (lane_at S (K ++ states) n)) (sym a)
           (counted_more r.opened S K sound.slots sound.sides time turn near far near_limit far_limit near_is far_is sound.counted n h));
+      one_piece = chunked ∙ sound.one_piece;
       read_room = λ h.
           let can = read_more r.opened S K sound.slots sound.sides time turn near far near_limit far_limit near_is far_is r.ready
           (vec_capacity r.beside) r.spare r.readable
@@ -370,13 +386,14 @@ sound_more r w k time turn near far near_limit far_limit near_is far_is sound a 
     }
 
 -- the two sides' bufferevents together
-pub slots_joined : (S S1 S2 : List Slot) (o time : ℕ) (near far : NewSide) → length S ≡ 4 * o →
-    S1 ≡ S ++ side_slots time near (length S) → S2 ≡ S1 ++ side_slots time far (length S1) →
-    S2 ≡ S ++ (side_slots time near (4 * o) ++ side_slots time far (4 * o + 2))
-slots_joined S S1 S2 o time near far h a b =
-    let n : length S1 ≡ 4 * o + 2 = ap length a ∙ length-append S (side_slots time near (length S)) ∙ ap (λ k. k + 2) h in
-    b ∙ (λ i. (a ∙ ap (λ k. S ++ side_slots time near k) h) i ++ side_slots time far (n i))
-    ∙ append_assoc S (side_slots time near (4 * o)) (side_slots time far (4 * o + 2))
+pub slots_joined : (S S1 S2 : List Slot) (c d : Bool) (o time : ℕ) (near far : NewSide) → length S ≡ 4 * o → c ≡ false → d ≡ c →
+    S1 ≡ S ++ side_slots c time near (length S) → S2 ≡ S1 ++ side_slots d time far (length S1) →
+    S2 ≡ S ++ (side_slots false time near (4 * o) ++ side_slots false time far (4 * o + 2))
+slots_joined S S1 S2 c d o time near far h c_is d_is a b =
+    let n : length S1 ≡ 4 * o + 2 = ap length a ∙ length-append S (side_slots c time near (length S)) ∙ ap (λ k. k + 2) h in
+    let first : S1 ≡ S ++ side_slots false time near (4 * o) = a ∙ (λ i. S ++ side_slots (c_is i) time near (h i)) in
+    b ∙ (λ i. first i ++ side_slots ((d_is ∙ c_is) i) time far (n i))
+    ∙ append_assoc S (side_slots false time near (4 * o)) (side_slots false time far (4 * o + 2))
 
 -- what was pushed stands behind the others
 pub pushed : {T E : Type 0} (r : Result T E) (x : T) (K K1 : List SideState) (s : SideState) → r ≡ Ok x →

@@ -73,6 +73,17 @@ pub record Sound (opened : ℕ) (S : List Slot) (K : List SideState) : Type 0 wh
   pub filters : (n : ℕ) → n < 2 * opened → (bevs_at S n).upper.kind ≡ Filter (lower_of n)
   pub counted : (n : ℕ) → n < 2 * opened → IsCounted (flow_at S K n) (lane_at S K n)
 
+-- Where no read has room, that is all.
+pub sound_unread : (s : Inside) → Sound s.opened s.world.slots s.sides.items → s.world.chunked ≡ false → s.readable ≡ 0 → AreSides s
+sound_unread s h one_piece unready = record {
+  slots = h.slots;
+  sides = h.sides;
+  filters = h.filters;
+  counted = h.counted;
+  one_piece = one_piece;
+  read_room = λ some. absurd (omega (arith, some, unready));
+}
+
 module _ (S S' : List Slot) (K : List SideState) (q : Quiet S S') where
   pub quiet_alike : Alike S S' K K
   quiet_alike = record {

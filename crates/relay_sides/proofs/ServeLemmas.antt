@@ -123,6 +123,26 @@ can_read v r is e opened sound count some room =
         (sym (eqb-true (number e) r.ready q)) (sound.read_room (omega (arith, some, le))).1) le
     go false q le = absurd (omega (arith, some, le))
 
+-- so that there is room for the step of the read filter over them
+pub step_there : (v : SidesValue) (r : Inside) → sides_of r ≡ v → (e : SideId) → e.link < v.links.opened → AreSides r → (room : ℕ)
+    → 0 < room → room ≤ spare_read v e → (at count limit made : ℕ) → at ≡ upper_of (number e) →
+    (let b = bevs_at r.world.slots (number e) in count ≡ length b.lower.bev.input.bytes + room) →
+    (let b = bevs_at r.world.slots (number e) in limit ≡ mark_or b.lower.bev.read_high most_at_once) →
+    made ≡ (state_at r.sides.items (number e)).read_made →
+    (let u = slot_at r.world at in HasStepRoom u.read_filter.kind count (length u.bev.input.bytes) limit u.bev.input.spare
+    (vec_capacity r.beside) made)
+step_there v r is e opened sound room some le at count limit made at_is count_is limit_is made_is =
+    let can = can_read v r is e opened sound room some le in
+    let b = bevs_at r.world.slots (number e) in
+    subst (λ (z : ℕ). (let u = slot_at r.world z in HasStepRoom u.read_filter.kind count (length u.bev.input.bytes) limit u.bev.input.spare
+    (vec_capacity r.beside) made)) (sym at_is)
+    (subst (λ (z : ℕ). HasStepRoom b.upper.read_filter.kind z (length b.upper.bev.input.bytes) limit b.upper.bev.input.spare
+    (vec_capacity r.beside) made) (sym count_is)
+    (subst (λ (z : ℕ). HasStepRoom b.upper.read_filter.kind (length b.lower.bev.input.bytes + room) (length b.upper.bev.input.bytes) z
+    b.upper.bev.input.spare (vec_capacity r.beside) made) (sym limit_is)
+    (subst (λ (z : ℕ). HasStepRoom b.upper.read_filter.kind (length b.lower.bev.input.bytes + room) (length b.upper.bev.input.bytes)
+    (mark_or b.lower.bev.read_high most_at_once) b.upper.bev.input.spare (vec_capacity r.beside) z) (sym made_is) can.step)))
+
 -- bytes came
 abbrev pub bevs_brought : List ℕ → ℕ → ℕ → Bevs → Bevs
 bevs_brought bytes time spare b = record b { lower = slot_fed bytes time spare b.lower }

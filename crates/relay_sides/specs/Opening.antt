@@ -1,16 +1,16 @@
--- The two bufferevents of a side whose link opens.
-use Rattle.std.specs.Prelude.{ℕ, ◌+◌, true, List, [], ◌∷◌, Option, Some, None}
+-- The two bufferevents of a side whose link opens, whose buffers may lie in several chunks, or not.
+use Rattle.std.specs.Prelude.{ℕ, ◌+◌, Bool, true, List, [], ◌∷◌, Option, Some, None}
 use Rattle.ev_types.specs.declared.filter.FilterKind.TheVariants as kind
 use Rattle.token_bucket.specs.declared.limit.LimitCfg.{LimitCfg}
-use Rattle.bev_core.specs.BevValue.{BevValue, new_bev}
-use Rattle.bev_world.specs.WorldValue.{new_slot}
+use Rattle.bev_core.specs.BevValue.{BevValue, new_chunked}
+use Rattle.bev_world.specs.WorldValue.{made_slot}
 use Rattle.bev_world.specs.declared.slot.Slot.{Slot}
 use Rattle.bev_world.specs.declared.slot.Kind.TheVariants.{Socket, Filter}
 use Rattle.relay_sides.specs.declared.opening.NewSide.{NewSide}
 
 -- that of its end: both directions are enabled, and were active when the link opened
-abbrev pub opening_bev : ℕ → NewSide → BevValue
-opening_bev time side = record new_bev {
+abbrev pub opening_bev : Bool → ℕ → NewSide → BevValue
+opening_bev chunked time side = record (new_chunked chunked) {
   reading = true;
   read_low = side.marks.read_low;
   read_high = side.marks.read_high;
@@ -23,10 +23,10 @@ opening_bev time side = record new_bev {
 }
 
 -- both, the first of which has this number; the second is a filter over it
-abbrev pub side_slots : ℕ → NewSide → ℕ → List Slot
-side_slots time side n =
-    record (new_slot Socket kind.None kind.None) { bev = opening_bev time side; taken = true } ∷ new_slot
-    (Filter n) side.read side.write ∷ []
+abbrev pub side_slots : Bool → ℕ → NewSide → ℕ → List Slot
+side_slots chunked time side n =
+    record (made_slot chunked Socket kind.None kind.None) { bev = opening_bev chunked time side; taken = true }
+    ∷ made_slot chunked (Filter n) side.read side.write ∷ []
 
 -- for how many limits there must be room
 abbrev pub limits_in : Option LimitCfg → ℕ

@@ -1,7 +1,10 @@
 -- How far a direction has come, as the code compares it, and its rounds, as the code makes them.
-use Rattle.std.specs.Prelude.{Bool, not, ◌==◌, ◌&&◌, ◌||◌, nat_lt, length, is_some}
+use Rattle.std.specs.Prelude.{ℕ, Bool, not, ◌==◌, ◌&&◌, ◌||◌, nat_lt, length, is_some}
 use Rattle.relay_state.specs.State.{Lane}
 use Rattle.relay_state.specs.Passage.{Passage, pass_round}
+use Rattle.ev_types.specs.declared.side.SideId.{SideId}
+use Rattle.ev_types.specs.Sides.{peer}
+use Rattle.relay_sides.specs.Links.{Links, side_at, passage_at, read_mark, hold_mark}
 use Rattle.relay_sides.specs.declared.pass.RoundProgress.{RoundProgress}
 use Rattle.relay_sides.specs.declared.pass.RoundRules.{RoundRules}
 
@@ -30,3 +33,17 @@ abbrev pub is_settled : RoundRules → Passage → Bool
 is_settled t x =
     not t.ended && not x.flow.held && nat_lt (length x.lane.buffers.raw_output) t.hold && is_all_passed x.lane && not x.flow.read_done
     && not (is_some x.lane.reader.stopped || is_some x.lane.writer.stopped)
+
+-- what a round of the direction that begins at a side goes by, where so many bytes hold a direction in the run
+abbrev pub rules_of : ℕ → Links → SideId → RoundRules
+rules_of hold k e = record {
+  mark = read_mark k e;
+  hold = hold_mark hold k (peer e);
+  ended = (side_at k e).ended;
+  from_live = (side_at k e).live;
+  to_live = (side_at k (peer e)).live;
+}
+
+-- there is nothing that a round of it could do
+abbrev pub is_settled_from : ℕ → Links → SideId → Bool
+is_settled_from hold k e = is_settled (rules_of hold k e) (passage_at k e)

@@ -1,6 +1,6 @@
 -- How the sides are kept: by two bufferevents each in a world, and what is kept beside them.
 use Rattle.std.specs.Prelude.{◌≡◌, ◌≤◌, ◌<◌, ◌+◌, ◌-◌, ◌*◌, ◌/◌, ◌^◌, ◌==◌, if◌then◌else◌, ℕ, List, length, min, nat_lt, vec_len}
-use Rattle.std.specs.Prelude.{vec_capacity}
+use Rattle.std.specs.Prelude.{vec_capacity, false}
 use Rattle.relay_model.specs.Flow.{Flow}
 use Rattle.relay_model.specs.Rooms.{most_at_once, mark_or}
 use Rattle.relay_state.specs.State.{Lane}
@@ -63,12 +63,13 @@ pub record CanRead (b : Bevs) (s : SideState) (beside spare count : ℕ) : Type 
   pub step : HasStepRoom b.upper.read_filter.kind (length b.lower.bev.input.bytes + count) (length b.upper.bev.input.bytes)
       (mark_or b.lower.bev.read_high most_at_once) b.upper.bev.input.spare beside s.read_made
 
--- There are four bufferevents for each link, of which every second one is a filter over the one before.
+-- There are four bufferevents for each link, of which every second one is a filter over the one before. Each buffer lies in one piece.
 pub record AreSides (r : Inside) : Type 0 where
   pub slots : length r.world.slots ≡ 4 * r.opened
   pub sides : length r.sides.items ≡ 2 * r.opened
   pub filters : (n : ℕ) → n < 2 * r.opened → (bevs_at r.world.slots n).upper.kind ≡ Filter (lower_of n)
   pub counted : (n : ℕ) → n < 2 * r.opened →
       IsCounted (flow_at r.world.slots r.sides.items n) (lane_at r.world.slots r.sides.items n)
+  pub one_piece : r.world.chunked ≡ false
   pub read_room : 0 < r.readable → (r.ready < 2 * r.opened)
       × CanRead (bevs_at r.world.slots r.ready) (state_at r.sides.items r.ready) (vec_capacity r.beside) r.spare r.readable

@@ -1,5 +1,5 @@
 // Limits of sides: memory for them is made before they are set.
-ghost use Rattle.std.specs.Prelude.{◌≡◌, ◌<◌, ◌≤◌, ◌+◌, ◌-◌, ◌^◌, true, OnOk, vec_len};
+ghost use Rattle.std.specs.Prelude.{◌≡◌, ◌<◌, ◌≤◌, ◌+◌, ◌-◌, ◌^◌, true, OnOk, IsOk, vec_len};
 ghost use Rattle.std.specs.Option.{option_map, option_to_list};
 ghost use Rattle.side_limit.specs.LimitValue.{bucket_holds, with_spent};
 ghost use Rattle.relay_sides.specs.Links.{side_at, gauge_at, change_side, allowance_at, limited, bucket_spent};
@@ -48,6 +48,7 @@ impl SpareLimits {
     pub fn reserve(&mut self, count: usize) -> Result<(), NoMemory>
         ensures more { self.old ≤ self.new }
         ensures room { OnOk result (count ≤ self.new) }
+        ensures there { count ≤ self.old → IsOk result }
     {
         let alloc = *self.limits.allocator();
         for _ in self.limits.len()..count {

@@ -1,5 +1,5 @@
 // Opening links.
-ghost use Rattle.std.specs.Prelude.{◌≡◌, ◌≤◌, ◌<◌, ◌+◌, ◌-◌, ◌^◌, ◌++◌, length, OnOk};
+ghost use Rattle.std.specs.Prelude.{◌≡◌, ◌≤◌, ◌<◌, ◌+◌, ◌-◌, ◌^◌, ◌++◌, length, OnOk, IsOk};
 ghost use Rattle.relay_sides.specs.Links.{with_link};
 ghost use Rattle.relay_sides.specs.Opening.{side_slots, limits_of};
 
@@ -31,13 +31,14 @@ pub struct NewSide {
 const MOST_LINKS: u32 = (1 << 30) - 1;
 
 impl Sides {
-    /// Makes room for one link more. It is also refused where 2^30 - 1 links were opened. Takes memory; constant, but where the room
-    /// grows.
+    /// Makes room for one link more. It is also refused where 2^30 - 1 links were opened. Takes memory where there is no such room;
+    /// constant, but where the room grows.
     ///
     /// Own.
     pub fn reserve_link(&mut self) -> Result<(), NoMemory>
         ensures links { self.new.links ≡ self.old.links }
         ensures room { OnOk result (0 < self.new.spare_links) }
+        ensures there { 0 < self.old.spare_links → IsOk result }
     {
         if self.opened >= MOST_LINKS {
             return Err(NoMemory);
@@ -79,7 +80,8 @@ impl Sides {
 fn add_bevs(world: &mut World, side: NewSide, time: u64)
     requires room { 2 ≤ world.old.spare }
     requires numbers { length world.old.slots + 2 < 2 ^ 32 }
-    ensures slots { world.new.slots ≡ world.old.slots ++ side_slots time side (length world.old.slots) }
+    ensures slots { world.new.slots ≡ world.old.slots ++ side_slots world.old.chunked time side (length world.old.slots) }
+    ensures chunked { world.new.chunked ≡ world.old.chunked }
     ensures spare { world.new.spare ≡ world.old.spare - 2 }
 {
     let id = world.new_socket().unwrap();

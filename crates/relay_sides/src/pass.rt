@@ -1,7 +1,7 @@
 // Passing a direction: rounds until one changes nothing. A round has its room before it begins, so that want of memory
 // leaves whole rounds. Where a pass moves nothing each buffer without a byte gives its room up, so that an idle link holds none.
-ghost use Rattle.std.specs.Prelude.{◌≡◌, ◌≢◌, ◌≤◌, ◌<◌, ◌+◌, ◌==◌, ◌&&◌, ◌||◌, length, OnOk, IfOk, MatchResult, IsTrue, ◌↔◌, is_some, true};
-ghost use Rattle.std.specs.Prelude.{false, ◌/◌, nat_le, if◌then◌else◌};
+ghost use Rattle.std.specs.Prelude.{◌≡◌, ◌≢◌, ◌≤◌, ◌<◌, ◌+◌, ◌==◌, ◌&&◌, ◌||◌, length, OnOk, IfOk, IsOk, MatchResult, IsTrue, ◌↔◌, is_some};
+ghost use Rattle.std.specs.Prelude.{true, false, ◌/◌, nat_le, if◌then◌else◌};
 ghost use Rattle.filter_model.specs.Filter.{or_else};
 ghost use Rattle.ev_types.specs.Sides.{peer};
 ghost use Rattle.relay_state.specs.Passage.{hold_part, read_part, move_part, write_part, write_step, written_by, has_moved_all, Passed};
@@ -10,7 +10,7 @@ ghost use Rattle.relay_sides.specs.Links.{lane_at, flow_at, moved, passage_at, w
 ghost use Rattle.relay_sides.specs.Pairs.{HasPairs};
 ghost use Rattle.relay_sides.specs.Rooms.{HasInputRoom, HasOutputRoom, HasNoIdleRoom, most_input, most_offered, KeepsStartRoom};
 ghost use Rattle.relay_sides.specs.Rooms.{KeepsEndRoom};
-ghost use Rattle.relay_sides.specs.Progress.{progress_of, round_by, is_all_passed, is_settled};
+ghost use Rattle.relay_sides.specs.Progress.{progress_of, round_by, is_all_passed, is_settled, rules_of, is_settled_from};
 
 use crate::side::{lower, upper};
 use crate::sides::Sides;
@@ -370,6 +370,7 @@ impl Sides {
             (λ _. SomeRounds (round_by round) (passage_at self.old.links from) (passage_at self.new.links from)) }
         ensures still { result ≡ Ok false → passage_at self.new.links from ≡ passage_at self.old.links from }
         ensures apart { result ≡ Ok true → progress_of (passage_at self.new.links from) ≢ progress_of (passage_at self.old.links from) }
+        ensures there { is_settled round (passage_at self.old.links from) ≡ true → IsOk result }
     {
         let mut changed = false;
         loop {
@@ -425,7 +426,8 @@ impl Sides {
     /// What a round of the direction goes by.
     fn round_rules(&self, from: SideId, hold: u64) -> RoundRules
         requires { from.link < self.now.links.opened }
-        ensures { round_by result ≡ round_from hold self.now.links from }
+        ensures rules { result ≡ rules_of hold self.now.links from }
+        ensures by { round_by result ≡ round_from hold self.now.links from }
     {
         let to = from.peer();
         let flags = self.flags(from);
@@ -440,8 +442,9 @@ impl Sides {
 
     /// Passes the direction that begins at the side: rounds until one changes nothing, with this hold mark where the side that it ends
     /// at has none. It answers whether anything changed; where nothing did, a round changes nothing either until another call does.
-    /// Takes memory for what a round may make; want of it comes between two rounds. Linear in the bytes that wait in the direction;
-    /// constant where none does. Where nothing changed, no buffer of the link that has no byte holds memory, in either direction.
+    /// Takes memory for what a round may make, and none where there is nothing that one could do; want of it comes between two rounds.
+    /// Linear in the bytes that wait in the direction; constant where none does. Where nothing changed, no buffer of the link that has
+    /// no byte holds memory, in either direction.
     ///
     /// Own.
     pub fn pass(&mut self, from: SideId, hold: u64) -> Result<bool, NoMemory>
@@ -454,6 +457,7 @@ impl Sides {
         ensures apart { result ≡ Ok true → self.new.links ≢ self.old.links }
         ensures rooms { result ≡ Ok false → HasNoIdleRoom self.new.links self.new.rooms from }
         ensures back { result ≡ Ok false → HasNoIdleRoom self.new.links self.new.rooms (peer from) }
+        ensures there { is_settled_from hold self.old.links from ≡ true → IsOk result }
     {
         let round = self.round_rules(from, hold);
         let changed = self.make_rounds(from, round)?;

@@ -57,7 +57,6 @@ impl Sides {
         requires { side.link < self.now.links.opened }
         ensures { result.now ≡ (lane_at self.now.links side).buffers.input }
     {
-        let bev = self.world.bev(upper(side));
-        bev.front(Dir::Read, bev.len(Dir::Read))
+        self.world.bytes_at(upper(side), Dir::Read)
     }
 }

@@ -1,5 +1,5 @@
 // What the results of reads, writes and connect checks change.
-ghost use Rattle.std.specs.Prelude.{◌≡◌, ◌+◌, ◌-◌, ◌^◌, ◌<◌, ◌≤◌, true, false, OnOk, length, min};
+ghost use Rattle.std.specs.Prelude.{◌≡◌, ◌+◌, ◌-◌, ◌^◌, ◌<◌, ◌≤◌, true, false, OnOk, IsOk, length, min};
 ghost use Rattle.token_bucket.specs.declared.limit.Dir.TheVariants.{Read, Write};
 ghost use Rattle.ev_types.specs.Sides.{peer};
 ghost use Rattle.relay_sides.specs.Links.{lane_at, change_side, with_got, after_got, after_took, read_mark};
@@ -14,13 +14,15 @@ use ev_types::{NoMemory, SideId};
 impl Sides {
     /// Makes room for a read of so many bytes from the side's end, and for what its read filter makes of them. It is also refused
     /// where they could not be counted. The room for the read is one for all sides, so that it is made once: how many bytes come is not
-    /// known before. Takes memory, for no more than can come; linear in the length where it does.
+    /// known before. Takes memory, for no more than can come, and none where there is room for as many already; linear in the length
+    /// where it does.
     ///
     /// Own.
     pub fn reserve_read(&mut self, side: SideId, room: usize) -> Result<(), NoMemory>
         requires { side.link < self.old.links.opened }
         ensures links { self.new.links ≡ self.old.links }
         ensures room { OnOk result (room ≤ spare_read self.new side) }
+        ensures there { 0 < room → room ≤ spare_read self.old side → IsOk result }
     {
         let own = &self.sides[side.number()];
         let read = own.read;

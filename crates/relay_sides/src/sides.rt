@@ -55,7 +55,7 @@ impl Sides {
     {
         Sides {
             opened: 0,
-            world: World::new(alloc),
+            world: World::in_one_piece(alloc),
             sides: Vec::new(alloc),
             beside: Vec::new(alloc),
             spare: SpareRoom::new(alloc),
@@ -190,7 +190,6 @@ impl Sides {
         requires { side.link < self.now.links.opened }
         ensures { result.now ≡ (lane_at self.now.links (peer side)).buffers.raw_output }
     {
-        let bev = self.world.bev(lower(side));
-        bev.front(Dir::Write, bev.len(Dir::Write))
+        self.world.bytes_at(lower(side), Dir::Write)
     }
 }

@@ -1,9 +1,10 @@
-use Rattle.std.proofs.Common.{ℕ, ◌+◌, ◌<◌, ◌≤◌, length, sym, ap, subst, arith}
+use Rattle.std.proofs.Common.{ℕ, ◌+◌, ◌<◌, ◌≤◌, length, refl, sym, ◌∙◌, ap, subst, arith}
 use Rattle.ev_types.specs.Sides.{number}
 use Rattle.bev_world.specs.ByNumber.{slot_fed}
-use Rattle.bev_world.specs.WorldValue.{bev_at}
+use Rattle.bev_world.specs.WorldValue.{WorldValue, bev_at}
 use Rattle.relay_sides.proofs.BevsLemmas.{number-lt}
 use Rattle.relay_sides.proofs.SidesLemmas.{here, state_found}
+use Rattle.relay_sides.proofs.RoomLemmas.{sound_unread}
 use Rattle.relay_sides.proofs.ServeLemmas.{lower_changed, state_changed, can_read, state_brought, brought-links, brought-sound}
 use Rattle.relay_sides.proofs.ServeLemmas.{brought-room}
 use Rattle.relay_sides.proofs.sides.Sides.bring.Goals as goal
@@ -40,7 +41,7 @@ invariant_of-self c =
     let q = state_changed r.sides.items (number e) c.number.result (state_brought c.args.bytes.now) _ c.number.ensures lt2
     (ap (state_brought c.args.bytes.now) x) in
     let s = brought-sound c.args.self.now r c.self.view_is e c.requires.opened c.self.invariant c.args.bytes.now c.args.time _ _ _ p q in
-    record { slots = s.slots; sides = s.sides; filters = s.filters; counted = s.counted; read_room = λ h. absurd (omega (arith, h)) }
+    sound_unread _ s (ap (λ (z : WorldValue). z.chunked) c.feed_at.ensures ∙ c.self.invariant.one_piece) refl
 
 pub returns-clause-links : goal.returns-clause-links
 returns-clause-links c =

@@ -4,7 +4,7 @@ use Rattle.relay_sides.proofs.sides.Sides.connected.Goals as goal
 
 pub invariant_of-self : goal.invariant_of-self
 invariant_of-self c =
-    are_sound c.self.inside _ c.self.invariant refl refl
+    are_sound c.self.inside _ c.self.invariant refl refl refl
     (state_lasting c.args.self.now c.self.inside c.self.view_is c.self.invariant c.args.side c.requires c.number.result c.number.ensures
     c.index_mut-own.result.now _ c.index_mut-own.ensures.value refl)
     (state_counted c.args.self.now c.self.inside c.self.view_is c.self.invariant c.args.side c.requires c.number.result c.number.ensures

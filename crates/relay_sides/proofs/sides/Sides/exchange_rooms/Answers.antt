@@ -10,7 +10,7 @@ use Rattle.relay_sides.specs.SidesValue.{SidesValue}
 use Rattle.relay_sides.proofs.BevsLemmas.{number-lt, twin-number, twin-apart, set_upper-other}
 use Rattle.relay_sides.proofs.ChangeLemmas.{left_of, right_of}
 use Rattle.relay_sides.proofs.SidesLemmas.{here, lane_seen, peer_number}
-use Rattle.relay_sides.proofs.RoomLemmas.{Quiet, seen_of, then_quiet, lower_quiet, upper_quiet, quiet_links, quiet_sound}
+use Rattle.relay_sides.proofs.RoomLemmas.{Quiet, seen_of, then_quiet, lower_quiet, upper_quiet, quiet_links, quiet_sound, sound_unread}
 use Rattle.relay_sides.proofs.sides.Sides.exchange_rooms.Goals as goal
 
 -- an input and an output without a byte are exchanged
@@ -68,7 +68,7 @@ invariant_of-self c =
     c.lower.ensures to_is (omega (arith, lt, c.self.invariant.slots)) (omega (arith, lt2, twin-number e, c.self.invariant.slots)) raw out
     c.move_at.ensures in
     let s = quiet_sound r.world.slots w.slots r.sides.items q r c.self.invariant refl refl in
-    record { slots = s.slots; sides = s.sides; filters = s.filters; counted = s.counted; read_room = λ p. absurd (omega (arith, p)) }
+    sound_unread _ s (ap (λ (z : WorldValue). z.chunked) c.move_at.ensures ∙ c.self.invariant.one_piece) refl
 
 pub returns : goal.returns
 returns c =

@@ -1,8 +1,10 @@
-use Rattle.std.proofs.Common.{arith}
+use Rattle.std.proofs.Common.{refl, ◌∙◌, ap, arith}
 use Rattle.ev_types.specs.Sides.{number}
+use Rattle.bev_world.specs.WorldValue.{WorldValue}
 use Rattle.relay_sides.specs.Bevs.{Bevs}
 use Rattle.relay_sides.proofs.BevsLemmas.{number-lt}
 use Rattle.relay_sides.proofs.SidesLemmas.{here}
+use Rattle.relay_sides.proofs.RoomLemmas.{sound_unread}
 use Rattle.relay_sides.proofs.ServeLemmas.{then_changed, lower_changed, upper_changed, slot_off, off-links, off-sound}
 use Rattle.relay_sides.proofs.sides.Sides.free.Goals as goal
 
@@ -19,7 +21,10 @@ invariant_of-self c =
     let s = off-sound c.args.self.now r c.self.view_is e c.requires c.self.invariant c.drop_at-2.new.self.slots
     (then_changed (number e) (λ (b : Bevs). record b { lower = slot_off b.lower }) (λ (b : Bevs). record b { upper = slot_off b.upper })
     r.world.slots w.slots c.drop_at-2.new.self.slots p q) in
-    record { slots = s.slots; sides = s.sides; filters = s.filters; counted = s.counted; read_room = λ h. absurd (omega (arith, h)) }
+    sound_unread _ s
+    (ap (λ (z : WorldValue). z.chunked) c.drop_at-2.ensures ∙ ap (λ (z : WorldValue). z.chunked) c.drop_at.ensures
+    ∙ c.self.invariant.one_piece)
+    refl
 
 pub returns : goal.returns
 returns c =

@@ -1,11 +1,12 @@
-use Rattle.std.proofs.Common.{ℕ, refl, sym, ◌∙◌, ap, subst, arith}
+use Rattle.std.proofs.Common.{Bool, refl, sym, ◌∙◌, ap, subst, arith}
 use Rattle.std.specs.Prelude.{vec_capacity}
 use Rattle.ev_types.specs.Sides.{number, peer}
+use Rattle.bev_world.specs.WorldValue.{WorldValue}
 use Rattle.relay_sides.specs.Bevs.{lower_of, upper_of, twin}
 use Rattle.relay_sides.specs.SidesValue.{SidesValue}
 use Rattle.relay_sides.proofs.BevsLemmas.{number-lt, twin-number, twin-apart, twin-twin}
 use Rattle.relay_sides.proofs.SidesLemmas.{here, peer_number}
-use Rattle.relay_sides.proofs.RoomLemmas.{quiet_links, quiet_sound}
+use Rattle.relay_sides.proofs.RoomLemmas.{quiet_links, quiet_sound, sound_unread}
 use Rattle.relay_sides.proofs.GivenUpLemmas.{HasGivenUp, gave_up, near_gave_up, far_gave_up, no_idle_room}
 use Rattle.relay_sides.proofs.sides.Sides.give_up_rooms.Goals as goal
 
@@ -24,7 +25,11 @@ invariant_of-self c =
     (omega (arith, lt, c.self.invariant.slots)) (omega (arith, lt2, twin-number e, c.self.invariant.slots))
     c.give_up_at.ensures c.give_up_at-2.ensures c.give_up_at-3.ensures c.give_up_at-4.ensures in
     let s = quiet_sound r.world.slots w.slots r.sides.items q r c.self.invariant refl refl in
-    record { slots = s.slots; sides = s.sides; filters = s.filters; counted = s.counted; read_room = λ h. absurd (omega (arith, h)) }
+    sound_unread _ s
+    (let f : WorldValue → Bool = λ w. w.chunked in
+    ap f c.give_up_at-4.ensures ∙ ap f c.give_up_at-3.ensures ∙ ap f c.give_up_at-2.ensures ∙ ap f c.give_up_at.ensures
+    ∙ c.self.invariant.one_piece)
+    refl
 
 pub returns-clause-links : goal.returns-clause-links
 returns-clause-links c =

@@ -25,7 +25,7 @@ invariant_of-self c =
     let x_is = own_found v r c.self.view_is c.self.invariant e c.requires c.number.result c.number.ensures x c.index_mut-own.ensures.value in
     let h = subst (λ z. IsCounted (flow_of b d z) (lane_of b d z)) (sym x_is)
     (c.self.invariant.counted (number e) (number-lt e r.opened (here v r c.self.view_is e c.requires))) in
-    are_sound r _ c.self.invariant refl refl
+    are_sound r _ c.self.invariant refl refl refl
     (own_lasting v r c.self.view_is c.self.invariant e c.requires c.number.result c.number.ensures y)
     (part_counted v r c.self.view_is e c.requires r.world.slots _ b d y (state_at r.sides.items (twin (number e)))
     (own_link v r c.self.view_is c.self.invariant e c.requires c.number.result c.number.ensures y) refl refl refl

@@ -1,9 +1,10 @@
-use Rattle.std.proofs.Common.{◌≡◌, suc, ◌<◌, true, false, inl, inr, sym, ◌∙◌, ap, subst, refl}
+use Rattle.std.proofs.Common.{◌≡◌, Bool, suc, ◌<◌, true, false, inl, inr, sym, ◌∙◌, ap, subst, refl}
 use Rattle.ev_types.specs.declared.side.SideId.{SideId}
 use Rattle.relay_state.specs.Passage.{Passage}
 use Rattle.relay_sides.specs.Links.{Links, passage_at, with_passage}
 use Rattle.relay_sides.specs.Pairs.{HasPairs}
-use Rattle.relay_sides.specs.Progress.{progress_of, round_by}
+use Rattle.relay_sides.specs.Progress.{progress_of, round_by, is_settled}
+use Rattle.relay_sides.specs.declared.pass.RoundRules.{RoundRules}
 use Rattle.relay_sides.proofs.LinksLemmas.{passage_put, with_twice}
 use Rattle.relay_sides.proofs.RoundLemmas.{weight, round_falls, round_over, rounds-suc, Went, went-apart, went_next}
 use Rattle.relay_sides.proofs.RoundParts.{pairs_back}
@@ -25,6 +26,12 @@ framed old l m n e frame same pairs opened x is once =
     ∙ with_twice old e (pairs_back old m e (passage_at l e) there pairs) opened (passage_at l e) x
     ∙ ap (λ z. with_passage e z old) (sym once)
 
+-- where a direction is not settled, it was not at first
+unsettled_first : (t : RoundRules) (changed settled : Bool) (first now : Passage) → settled ≡ is_settled t now → settled ≡ false →
+    (changed ≡ false → now ≡ first) → (changed ≡ true → is_settled t first ≡ false) → is_settled t first ≡ false
+unsettled_first t true settled first now is unsettled still was = was refl
+unsettled_first t false settled first now is unsettled still was = ap (is_settled t) (sym (still refl)) ∙ sym is ∙ unsettled
+
 -- where the direction is settled, nothing is made of it
 pub returns-then-is_settled-clause-passage : goal.returns-then-is_settled-clause-passage
 returns-then-is_settled-clause-passage c =
@@ -41,6 +48,15 @@ returns-then-is_settled-clause-apart c = λ h.
     let some : c.loop-from.changed ≡ true = cc in
     went-apart c.args.round.hold (passage_at c.args.self.now.links c.args.from) (passage_at c.loop-from.self.links c.args.from)
     (c.loop-from.invariant.went some)
+
+-- memory is wanted where the direction is not settled alone
+pub returns-in_err-reserve_round-clause-there : goal.returns-in_err-reserve_round-clause-there
+returns-in_err-reserve_round-clause-there c = λ settled.
+    let e = c.args.from in
+    let here : c.is_settled.result ≡ false = cc in
+    let unsettled = unsettled_first c.args.round c.loop-from.changed c.is_settled.result (passage_at c.args.self.now.links e)
+    (passage_at c.loop-from.self.links e) c.is_settled.ensures.settled here c.loop-from.invariant.still c.loop-from.invariant.unsettled in
+    absurd (let wrong : true ≡ false = sym settled ∙ unsettled in cc)
 
 pub returns-then-is_same-clause-frame : goal.returns-then-is_same-clause-frame
 returns-then-is_same-clause-frame c =
@@ -160,6 +176,9 @@ loop-from-preserved c =
         once ∙ ap (round_by t) (from ∙ some.1) ∙ sym (rounds-suc some.0 (round_by t) (passage_at old e)),
       );
       still = λ eq. absurd (let wrong : true ≡ false = eq in cc);
+      unsettled = λ _. unsettled_first t c.loop-from.changed c.is_settled.result (passage_at old e) (passage_at l e)
+          c.is_settled.ensures.settled (let here : c.is_settled.result ≡ false = cc in here)
+          c.loop-from.invariant.still c.loop-from.invariant.unsettled;
       went = λ _. went_next t.mark t.hold t.ended t.from_live t.to_live c.loop-from.changed
           (passage_at old e) (passage_at m e) (passage_at n e)
           (λ eq. from ∙ c.loop-from.invariant.still eq)

@@ -2,7 +2,7 @@ use Rattle.std.proofs.Common.{◌*◌, ◌≤◌, length, refl, ap, sym, subst, 
 use Rattle.std.proofs.lemmas.List.{nil_from_length}
 use Rattle.ev_types.specs.Sides.{number}
 use Rattle.relay_state.specs.State.{Lane}
-use Rattle.bev_world.specs.WorldValue.{bev_at}
+use Rattle.bev_world.specs.WorldValue.{WorldValue, bev_at}
 use Rattle.bev_world.specs.declared.slot.Slot.{Slot}
 use Rattle.relay_sides.specs.Bevs.{bevs_at, upper_of, twin}
 use Rattle.relay_sides.specs.SidesValue.{SidesValue}
@@ -51,7 +51,7 @@ invariant_of-self c =
     let empty = ap (λ (l : Lane). length l.buffers.output) (sym (lane_seen v r c.self.view_is e c.requires.opened)) ∙ c.requires.empty in
     let count_is = c.own_input_len-count.ensures
     ∙ ap (λ (l : Lane). length l.buffers.input) (lane_seen v r c.self.view_is e c.requires.opened) in
-    are_sound r _ c.self.invariant refl refl
+    are_sound r _ c.self.invariant refl refl (ap (λ (z : WorldValue). z.chunked) c.move_at.ensures)
     (move_lasting c.args.self.now c.self.inside c.self.view_is c.self.invariant c.args.from c.requires.opened c.number.result
     c.number.ensures x c.index_mut-own.ensures.value c.upper.result c.upper-2.result c.upper.ensures to_is c.move_at.new.self c.move_at.ensures
     empty c.own_input_len-count.result count_is)

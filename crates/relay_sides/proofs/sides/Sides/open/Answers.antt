@@ -13,15 +13,17 @@ invariant_of-self c =
     let far = c.args.far in
     let a = c.take_first-near_limit.result in
     let b = c.take_first-far_limit.result in
-    let slots = slots_joined r.world.slots c.add_bevs.new.world.slots c.add_bevs-2.new.world.slots r.opened c.args.time near far
-    c.self.invariant.slots c.add_bevs.ensures.slots c.add_bevs-2.ensures.slots in
+    let slots = slots_joined r.world.slots c.add_bevs.new.world.slots c.add_bevs-2.new.world.slots r.world.chunked
+    c.add_bevs.new.world.chunked r.opened c.args.time near far c.self.invariant.slots c.self.invariant.one_piece
+    c.add_bevs.ensures.chunked c.add_bevs.ensures.slots c.add_bevs-2.ensures.slots in
     let states = states_joined r.sides.items c.push.new.self.items c.push-2.new.self.items c.new-near_state.result c.new-far_state.result
     (new_state near.connected a near.group) (new_state far.connected b far.group) c.new-near_state.ensures c.new-far_state.ensures
     (pushed c.push.result c.unwrap.result r.sides.items c.push.new.self.items c.new-near_state.result c.unwrap.ensures c.push.ensures.items)
     (pushed c.push-2.result c.unwrap-2.result c.push.new.self.items c.push-2.new.self.items c.new-far_state.result c.unwrap-2.ensures
     c.push-2.ensures.items) in
     sound_more r c.add_bevs-2.new.world c.push-2.new.self c.args.time c.args.turn near far a b
-    c.take_first-near_limit.ensures.limit c.take_first-far_limit.ensures.limit c.self.invariant slots states
+    c.take_first-near_limit.ensures.limit c.take_first-far_limit.ensures.limit c.self.invariant slots
+    (c.add_bevs-2.ensures.chunked ∙ c.add_bevs.ensures.chunked) states
 
 pub returns-clause-links : goal.returns-clause-links
 returns-clause-links c =
@@ -30,8 +32,9 @@ returns-clause-links c =
     let far = c.args.far in
     let a = c.take_first-near_limit.result in
     let b = c.take_first-far_limit.result in
-    let slots = slots_joined r.world.slots c.add_bevs.new.world.slots c.add_bevs-2.new.world.slots r.opened c.args.time near far
-    c.self.invariant.slots c.add_bevs.ensures.slots c.add_bevs-2.ensures.slots in
+    let slots = slots_joined r.world.slots c.add_bevs.new.world.slots c.add_bevs-2.new.world.slots r.world.chunked
+    c.add_bevs.new.world.chunked r.opened c.args.time near far c.self.invariant.slots c.self.invariant.one_piece
+    c.add_bevs.ensures.chunked c.add_bevs.ensures.slots c.add_bevs-2.ensures.slots in
     let states = states_joined r.sides.items c.push.new.self.items c.push-2.new.self.items c.new-near_state.result c.new-far_state.result
     (new_state near.connected a near.group) (new_state far.connected b far.group) c.new-near_state.ensures c.new-far_state.ensures
     (pushed c.push.result c.unwrap.result r.sides.items c.push.new.self.items c.new-near_state.result c.unwrap.ensures c.push.ensures.items)

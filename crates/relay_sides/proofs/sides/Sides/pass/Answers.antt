@@ -1,7 +1,9 @@
-use Rattle.std.proofs.Common.{◌≡◌, ap, sym, subst, ◌∙◌, MatchResult}
+use Rattle.std.proofs.Common.{◌≡◌, true, false, ap, sym, subst, ◌∙◌, MatchResult}
 use Rattle.std.proofs.lemmas.Result.{err_from_is_err_and}
 use Rattle.relay_state.specs.Passage.{Passage, Passed, SomeRounds}
 use Rattle.relay_sides.specs.Links.{passage_at, with_passage, round_from, PassedFrom, PartlyPassed}
+use Rattle.relay_sides.specs.Progress.{is_settled}
+use Rattle.relay_sides.specs.declared.pass.RoundRules.{RoundRules}
 use Rattle.relay_sides.proofs.LinksLemmas.{with_same}
 use Rattle.relay_sides.proofs.sides.Sides.pass.Goals as goal
 
@@ -14,7 +16,7 @@ returns-in_err-changed-clause-passed c =
     subst (λ r. MatchResult r (λ _. PassedFrom c.args.hold old e new) (λ _. PartlyPassed c.args.hold old e new)) (sym p.1) (
       passage_at new e,
       subst (λ (f : Passage → Passage). SomeRounds f (passage_at old e)
-          (passage_at new e)) c.round_rules-round.ensures c.in_err-changed.ensures.passage,
+          (passage_at new e)) c.round_rules-round.ensures.by c.in_err-changed.ensures.passage,
       c.in_err-changed.ensures.frame,
     )
 
@@ -25,7 +27,7 @@ returns-else-changed-clause-passed c =
     let mid = c.make_rounds.new.self.links in (
       passage_at mid e,
       subst (λ (f : Passage → Passage). Passed f (passage_at old e)
-          (passage_at mid e)) c.round_rules-round.ensures c.in_ok-changed.ensures.passage,
+          (passage_at mid e)) c.round_rules-round.ensures.by c.in_ok-changed.ensures.passage,
       c.give_up_rooms.ensures.links ∙ c.in_ok-changed.ensures.frame,
     )
 
@@ -36,7 +38,7 @@ returns-else-changed-clause-still c = λ h.
     let old = c.args.self.now.links in
     let mid = c.make_rounds.new.self.links in
     let same = c.in_ok-changed.ensures.still h in
-    let passed = subst (λ (f : Passage → Passage). Passed f (passage_at old e) (passage_at mid e)) c.round_rules-round.ensures
+    let passed = subst (λ (f : Passage → Passage). Passed f (passage_at old e) (passage_at mid e)) c.round_rules-round.ensures.by
     c.in_ok-changed.ensures.passage in (
       c.give_up_rooms.ensures.links ∙ c.in_ok-changed.ensures.frame ∙ ap (λ x. with_passage e x old) same ∙ with_same old e,
       subst (λ x. round_from c.args.hold old e x ≡ x) same passed.2,
@@ -49,6 +51,11 @@ returns-then-changed-clause-passed c =
     let mid = c.make_rounds.new.self.links in (
       passage_at mid e,
       subst (λ (f : Passage → Passage). Passed f (passage_at old e)
-          (passage_at mid e)) c.round_rules-round.ensures c.in_ok-changed.ensures.passage,
+          (passage_at mid e)) c.round_rules-round.ensures.by c.in_ok-changed.ensures.passage,
       c.hand_room_back.ensures ∙ c.in_ok-changed.ensures.frame,
     )
+
+pub returns-in_err-changed-clause-there : goal.returns-in_err-changed-clause-there
+returns-in_err-changed-clause-there c = λ settled.
+    let rules = ap (λ (t : RoundRules). is_settled t (passage_at c.args.self.now.links c.args.from)) c.round_rules-round.ensures.rules in
+    absurd (let wrong : false ≡ true = c.in_err-changed.ensures.there (rules ∙ settled) in cc)

@@ -3,11 +3,11 @@ use Rattle.std.proofs.lemmas.Result.{IfOk-weaker, on_ok_weaker}
 use Rattle.std.specs.Prelude.{vec_capacity}
 use Rattle.ev_types.specs.Sides.{number}
 use Rattle.stream_filters.specs.StepAnswers.{most_by_step}
-use Rattle.bev_world.specs.WorldValue.{slot_at, bev_at}
+use Rattle.bev_world.specs.WorldValue.{WorldValue, slot_at, bev_at}
 use Rattle.relay_sides.specs.SideView.{state_at}
 use Rattle.relay_sides.proofs.BevsLemmas.{number-lt}
 use Rattle.relay_sides.proofs.SidesLemmas.{here, state_found}
-use Rattle.relay_sides.proofs.RoomLemmas.{quiet_links, quiet_sound, upper_spared, lane_is, has_input_room, input_step_room}
+use Rattle.relay_sides.proofs.RoomLemmas.{quiet_links, quiet_sound, sound_unread, upper_spared, lane_is, has_input_room, input_step_room}
 use Rattle.relay_sides.proofs.sides.Sides.reserve_input.Goals as goal
 
 pub invariant_of-self-2 : goal.invariant_of-self-2
@@ -19,7 +19,7 @@ invariant_of-self-2 c =
     (bev_at c.reserve_step_at.new.self c.upper.result).input.spare c.upper.ensures
     (omega (arith, lt, c.self.invariant.slots)) c.reserve_step_at.ensures.stays in
     let s = quiet_sound r.world.slots c.reserve_step_at.new.self.slots r.sides.items q r c.self.invariant refl refl in
-    record { slots = s.slots; sides = s.sides; filters = s.filters; counted = s.counted; read_room = λ h. absurd (omega (arith, h)) }
+    sound_unread _ s (ap (λ (z : WorldValue). z.chunked) c.reserve_step_at.ensures.stays ∙ c.self.invariant.one_piece) refl
 
 pub returns-clause-links : goal.returns-clause-links
 returns-clause-links c =

@@ -3,15 +3,15 @@ use Rattle.std.specs.Prelude.{vec_capacity}
 use Rattle.ev_types.specs.Sides.{number, peer}
 use Rattle.token_bucket.specs.declared.limit.Dir.TheVariants.{Write}
 use Rattle.bev_world.specs.ByNumber.{with_spare_in}
-use Rattle.bev_world.specs.WorldValue.{bev_at}
+use Rattle.bev_world.specs.WorldValue.{WorldValue, bev_at}
 use Rattle.relay_sides.specs.Bevs.{lower_of, upper_of, twin}
 use Rattle.relay_sides.specs.Rooms.{input_room}
 use Rattle.relay_sides.specs.SidesValue.{SidesValue}
 use Rattle.relay_sides.specs.SideView.{state_at}
 use Rattle.relay_sides.proofs.BevsLemmas.{number-lt}
 use Rattle.relay_sides.proofs.SidesLemmas.{here, state_found, peer_number}
-use Rattle.relay_sides.proofs.RoomLemmas.{quiet_links, quiet_sound, lower_spared, lower_leaves_upper, input_room_is, has_output_room}
-use Rattle.relay_sides.proofs.RoomLemmas.{output_step_room}
+use Rattle.relay_sides.proofs.RoomLemmas.{quiet_links, quiet_sound, sound_unread, lower_spared, lower_leaves_upper, input_room_is}
+use Rattle.relay_sides.proofs.RoomLemmas.{has_output_room, output_step_room}
 use Rattle.relay_sides.proofs.sides.Sides.reserve_output.Goals as goal
 
 pub invariant_of-self : goal.invariant_of-self
@@ -24,7 +24,7 @@ invariant_of-self c =
     let q = lower_spared r.world w (number p) c.lower.result (bev_at w c.lower.result).output.spare c.lower.ensures
     (omega (arith, lt, ap number c.peer-to.ensures, c.self.invariant.slots)) c.reserve_step_at.ensures.stays in
     let s = quiet_sound r.world.slots w.slots r.sides.items q r c.self.invariant refl refl in
-    record { slots = s.slots; sides = s.sides; filters = s.filters; counted = s.counted; read_room = λ h. absurd (omega (arith, h)) }
+    sound_unread _ s (ap (λ (z : WorldValue). z.chunked) c.reserve_step_at.ensures.stays ∙ c.self.invariant.one_piece) refl
 
 pub returns-in_err-reserve_step_at-clause-links : goal.returns-in_err-reserve_step_at-clause-links
 returns-in_err-reserve_step_at-clause-links c =
@@ -65,7 +65,7 @@ invariant_of-self-2 c =
     let q = lower_spared r.world w (number p) c.lower.result (bev_at w c.lower.result).output.spare c.lower.ensures
     (omega (arith, lt, ap number c.peer-to.ensures, c.self.invariant.slots)) c.reserve_step_at.ensures.stays in
     let s = quiet_sound r.world.slots w.slots r.sides.items q r c.self.invariant refl refl in
-    record { slots = s.slots; sides = s.sides; filters = s.filters; counted = s.counted; read_room = λ h. absurd (omega (arith, h)) }
+    sound_unread _ s (ap (λ (z : WorldValue). z.chunked) c.reserve_step_at.ensures.stays ∙ c.self.invariant.one_piece) refl
 
 pub returns-clause-links : goal.returns-clause-links
 returns-clause-links c =

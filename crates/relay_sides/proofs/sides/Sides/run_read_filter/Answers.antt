@@ -4,7 +4,7 @@ use Rattle.ev_types.specs.Sides.{number}
 use Rattle.filter_model.specs.Filter.{or_else}
 use Rattle.filter_model.specs.Running.{Running}
 use Rattle.bev_filter.specs.StepRoom.{HasStepRoom}
-use Rattle.bev_world.specs.WorldValue.{slot_at}
+use Rattle.bev_world.specs.WorldValue.{WorldValue, slot_at}
 use Rattle.relay_sides.specs.Bevs.{Bevs, bevs_at, upper_of, twin}
 use Rattle.relay_sides.specs.SidesValue.{SidesValue}
 use Rattle.relay_sides.specs.declared.side.SideState.{SideState}
@@ -46,7 +46,7 @@ invariant_of-self c =
     c.upper.ensures c.lower.ensures c.step_at-own.ensures.crossed c.step_at-own.ensures.world c.step_at-own.ensures.made in
     let bad = c.first_place-own.ensures ∙ ap (or_else x.bad) (c.stopped.ensures ∙ ap (λ (z : Running). z.stopped) (c.filter.ensures
     ∙ ap (λ a. (slot_at w a).read_filter) c.upper-2.ensures)) in
-    are_sound c.self.inside _ c.self.invariant refl refl
+    are_sound c.self.inside _ c.self.invariant refl refl (ap (λ (z : WorldValue). z.chunked) c.step_at-own.ensures.world)
     (read_lasting c.args.self.now c.self.inside c.self.view_is c.self.invariant c.args.from c.requires.opened c.number.result
     c.number.ensures x c.index_mut-own.ensures.value c.args.mark c.args.ended w c.step_at-own.result c.first_place-own.result g bad)
     (read_fits c.args.self.now c.self.inside c.self.view_is c.self.invariant c.args.from c.requires.opened c.number.result

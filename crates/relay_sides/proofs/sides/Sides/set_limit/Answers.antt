@@ -13,7 +13,7 @@ invariant_of-self c =
     let v = c.args.self.now in
     let r = c.self.inside in
     let x = c.index_mut-own.result.now in
-    are_sound r _ c.self.invariant refl refl
+    are_sound r _ c.self.invariant refl refl refl
     (limit_lasting v r c.self.view_is c.self.invariant c.args.side c.requires.opened c.number.result c.number.ensures x
     c.index_mut-own.ensures.value c.set_of.new.limit)
     (limit_counted v r c.self.view_is c.self.invariant c.args.side c.requires.opened c.number.result c.number.ensures x

@@ -1,12 +1,13 @@
-use Rattle.std.proofs.Common.{ℕ, ◌+◌, ◌<◌, ◌≤◌, length, ◌∙◌, ap, arith}
+use Rattle.std.proofs.Common.{ℕ, ◌+◌, ◌<◌, ◌≤◌, length, refl, ◌∙◌, ap, arith}
 use Rattle.token_bucket.specs.declared.limit.Dir.TheVariants.{Write}
 use Rattle.ev_types.specs.Sides.{number, peer}
 use Rattle.bev_core.specs.Steps.{touched, less}
-use Rattle.bev_world.specs.WorldValue.{bev_at}
+use Rattle.bev_world.specs.WorldValue.{WorldValue, bev_at}
 use Rattle.bev_world.specs.declared.slot.Slot.{Slot}
 use Rattle.relay_sides.specs.Bevs.{Bevs, twin}
 use Rattle.relay_sides.proofs.BevsLemmas.{number-lt, twin-number}
 use Rattle.relay_sides.proofs.SidesLemmas.{here, state_found, peer_number}
+use Rattle.relay_sides.proofs.RoomLemmas.{sound_unread}
 use Rattle.relay_sides.proofs.ServeLemmas.{then_changed, lower_changed, state_changed, state_given, can_give, took-links, took-sound}
 use Rattle.relay_sides.proofs.sides.Sides.took.Goals as goal
 
@@ -50,7 +51,10 @@ invariant_of-self c =
     (ap (state_given c.args.count) x) in
     let s = took-sound c.args.self.now r c.self.view_is e c.requires.opened c.self.invariant c.args.count spare c.args.time _ _ both k
     c.requires.within in
-    record { slots = s.slots; sides = s.sides; filters = s.filters; counted = s.counted; read_room = λ h. absurd (omega (arith, h)) }
+    sound_unread _ s
+    (ap (λ (z : WorldValue). z.chunked) c.touch_at.ensures ∙ ap (λ (z : WorldValue). z.chunked) c.drain_at.ensures.bytes
+    ∙ c.self.invariant.one_piece)
+    refl
 
 pub returns : goal.returns
 returns c =

@@ -5,7 +5,7 @@ use Rattle.filter_model.specs.Filter.{or_else}
 use Rattle.filter_model.specs.Running.{Running}
 use Rattle.relay_state.specs.State.{Lane}
 use Rattle.bev_filter.specs.StepRoom.{HasStepRoom}
-use Rattle.bev_world.specs.WorldValue.{slot_at}
+use Rattle.bev_world.specs.WorldValue.{WorldValue, slot_at}
 use Rattle.relay_sides.specs.Bevs.{bevs_at, lower_of, upper_of, twin}
 use Rattle.relay_sides.specs.SideView.{state_at}
 use Rattle.relay_sides.specs.declared.side.SideState.{SideState}
@@ -78,7 +78,7 @@ invariant_of-self c =
     let bad = c.first_place-other.ensures
     ∙ ap (or_else z.bad) (c.stopped-stopped.ensures ∙ ap (λ (f : Running). f.stopped) (c.filter.ensures
     ∙ ap (λ a. (slot_at w a).write_filter) (c.upper-2.ensures ∙ ap upper_of same))) in
-    are_sound c.self.inside _ c.self.invariant refl refl
+    are_sound c.self.inside _ c.self.invariant refl refl (ap (λ (z : WorldValue). z.chunked) c.step_at-own.ensures.world)
     (write_lasting c.args.self.now c.self.inside c.self.view_is c.self.invariant c.args.from c.requires.opened c.number.result
     c.number.ensures x c.index_mut-own.ensures.value c.args.hold c.args.over w c.step_at-own.result c.first_place-other.result g
     c.number-2.result (c.number-2.ensures ∙ same) z c.index_mut-other.ensures.value bad)
