@@ -63,7 +63,7 @@ TurnsTo g h is failed R After Tells old new =
     DriveWent R After Tells failed old.0 new.0 (h.trace old.2) (h.trace new.2) (knows g Point.Between old.1) (knows g is new.1)
     (g.faults old.1) (g.faults new.1)
 
--- A turn of a run ends so, or is refused so, and hooks tell what its entries say, but for one that wanted memory where it is refused.
+-- A turn of a run ends so, or is refused so, and hooks tell what its entries say, but for one at most where it is refused.
 abbrev pub EndsTold : {P S H : Type 0} → port.Ghosts P → scribe.Ghosts S → Telling H → Result TurnEnd DriveFault → Run × P × S → Run ×
     P × S →
     List (Option H) → List (Option H) → List (Option H) → List (Option H) → Type 0

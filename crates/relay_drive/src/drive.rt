@@ -119,7 +119,7 @@ impl Drive {
         // Every other turn goes through its phases, or a hook ends it, or it is cut off as its answer says. Whatever trace the relay stood
         // for, it stands for that trace with the turn's entries, where such an answer may come. So the port vouches for it, is tied to it,
         // and every link that waited was accepted, as it was before. Each hook was called for what the entries say and asked what they
-        // say; but for one that wanted memory, where the turn is refused for that.
+        // say; but for one at most, whichever it is, where the turn is refused.
         ensures went { self.old.kept ≡ None → is_worn self.old ≡ false → MatchResult result
             (λ end. TurnsTo P.Port S.Scribe Point.Accepted false (EndsTurn end) (LeftFor (turn_end_of end))
             (HooksTell (telling (λ h. heard h) (λ h. asked h) (λ h. planned h)) None seats.old.hooks.items seats.old.gone.items
