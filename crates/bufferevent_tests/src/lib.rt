@@ -7,6 +7,8 @@ mod bufferevents;
 #[cfg(test)]
 mod callbacks;
 #[cfg(test)]
+mod chunks;
+#[cfg(test)]
 mod due;
 #[cfg(test)]
 mod filters;

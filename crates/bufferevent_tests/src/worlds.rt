@@ -75,7 +75,7 @@ fn over_socket(
 }
 
 /// A step of a filter that isn't finished.
-fn pass(
+pub(crate) fn pass(
     world: &mut World,
     over: BevId,
     dir: Dir,
