@@ -22,7 +22,7 @@ pub(crate) struct Chained {
 
 impl Model for Chained {
     ghost use Rattle.bev_core.specs.BevValue.{Held};
-    ghost use Rattle.bev_core.specs.ChainView.{chained};
+    ghost use Rattle.bev_core.specs.ChainedView.{chained};
 
     ghost Value = { Held };
 

@@ -4,7 +4,7 @@ use Rattle.std.specs.Prelude.{slice_index_or, slice_set}
 use Rattle.std.proofs.lemmas.List.{get_or-set_same, set-set, set-get_or}
 use Rattle.bev_core.specs.BevValue.{Held}
 use Rattle.bev_world.specs.declared.slot.Slot.{Slot}
-use Rattle.bev_world.specs.Passed.{emptied, refilled}
+use Rattle.bev_world.specs.Passed.{emptied, with_whole_input}
 use Rattle.bev_world.specs.WorldValue.{WorldValue, no_slot, slot_at, bev_at}
 
 abbrev without_input : Slot → Slot
@@ -12,9 +12,9 @@ without_input s = record s { bev = record s.bev { input = record { bytes = []; s
 
 -- what was taken out of a slot is back there
 pub restored : (w v new : WorldValue) (n room : ℕ) (input : Held) → n < length w.slots → v ≡ emptied w n 0 →
-    input ≡ (bev_at w n).input → room ≡ (slot_at w n).room → new ≡ refilled v n input room → new ≡ w
+    input ≡ (bev_at w n).input → room ≡ (slot_at w n).room → new ≡ with_whole_input v n input room → new ≡ w
 restored w v new n room input there empty same sure is =
-    is ∙ (λ i. refilled (empty i) n (same i) (sure i)) ∙ ap (λ ss. record w { slots = ss }) slots_are
+    is ∙ (λ i. with_whole_input (empty i) n (same i) (sure i)) ∙ ap (λ ss. record w { slots = ss }) slots_are
   where
     s : Slot
     s = slot_at w n

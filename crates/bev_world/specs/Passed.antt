@@ -8,12 +8,12 @@ use Rattle.bev_world.specs.Refusals.{live_refusal, length_fault}
 use Rattle.bev_world.specs.WorldValue.{WorldValue, slot_at, bev_at, with_slot}
 
 -- the input is another, and is sure of so much room
-abbrev pub refilled : WorldValue → ℕ → Held → ℕ → WorldValue
-refilled w n input room = with_slot w n (record (slot_at w n) { bev = record (bev_at w n) { input = input }; room = room })
+abbrev pub with_whole_input : WorldValue → ℕ → Held → ℕ → WorldValue
+with_whole_input w n input room = with_slot w n (record (slot_at w n) { bev = record (bev_at w n) { input = input }; room = room })
 
 -- the input has no byte and is sure of no room, but so much is spare in it
 abbrev pub emptied : WorldValue → ℕ → ℕ → WorldValue
-emptied w n spare = refilled w n (record { bytes = []; spare = spare }) 0
+emptied w n spare = with_whole_input w n (record { bytes = []; spare = spare }) 0
 
 -- The whole input of one is at the end of the output of another, or of the same one, and that input is sure of no room. The last two
 -- arguments are what is spare in that output and in that input afterwards.

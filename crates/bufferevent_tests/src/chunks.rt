@@ -1,4 +1,5 @@
-// Inputs that move behind one another, and what passes a filter then. Worlds and bufferevents are lent, so that each is let go at one place.
+// Inputs that move behind one another, and what passes a filter then. Worlds and bufferevents are lent, so that each is let go at one
+// place.
 
 use crate::worlds::pass;
 use bev_core::{Bev, BevFault};

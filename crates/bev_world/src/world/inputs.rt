@@ -3,7 +3,7 @@ ghost use Rattle.std.specs.Prelude.{◌≡◌, ◌≤◌, ◌<◌, ◌+◌, ◌^
 ghost use Rattle.byte_queue.specs.MemoryAnswers.{AnswersOr, fault_of};
 ghost use Rattle.bev_core.specs.BevValue.{new_chunked};
 ghost use Rattle.bev_world.specs.declared.fault.WorldFault.TheVariants.{Memory};
-ghost use Rattle.bev_world.specs.Passed.{emptied, refilled, moved_input, move_refusal};
+ghost use Rattle.bev_world.specs.Passed.{emptied, with_whole_input, moved_input, move_refusal};
 ghost use Rattle.bev_world.specs.Halves.{appended};
 ghost use Rattle.bev_world.specs.Refusals.{length_fault};
 ghost use Rattle.bev_world.specs.Went.{Went};
@@ -80,7 +80,7 @@ impl World {
         requires there { at < length self.old.slots }
         requires alike { carrier.chunked ≡ self.old.chunked }
         requires room { room ≤ carrier.output.spare }
-        ensures { self.new ≡ refilled self.old at carrier.output room }
+        ensures { self.new ≡ with_whole_input self.old at carrier.output room }
     {
         let slot = &mut self.slots[at];
         carrier.swap_across(Dir::Write, &mut slot.bev);

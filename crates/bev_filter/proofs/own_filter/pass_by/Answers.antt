@@ -11,8 +11,8 @@ returns-in_ok-trade-in-Ok g c =
     record {
       passes = passed-on _ _ _ c.args.dir c.args.limit c.args.mode
           (record { from = c.args.from.now; to = c.args.to.now; by = c.args.filter.now }) c.copied-next.result c.step_of.new.filter
-          c.saturating_sub-room.result (held c.args.from.now c.args.dir).bytes c.new-made.result.items c.step_of.new.made.items c.deref.result.now
-          c.trade.new.from c.trade.new.to c.copied-next.ensures refl left c.new-made.ensures.items c.deref.ensures.value
+          c.saturating_sub-room.result (held c.args.from.now c.args.dir).bytes c.new-made.result.items c.step_of.new.made.items
+          c.deref.result.now c.trade.new.from c.trade.new.to c.copied-next.ensures refl left c.new-made.ensures.items c.deref.ensures.value
           c.in-Ok.step c.in-Ok.ensures.steps c.in_ok-trade-in-Ok.ensures.trades;
     }
 
@@ -20,8 +20,8 @@ pub returns-in_ok-trade-in-Err-BadByte : goal.returns-in_ok-trade-in-Err-BadByte
 returns-in_ok-trade-in-Err-BadByte g c =
     let left = c.saturating_sub-room.ensures ∙ ap (λ n. c.args.limit - n) c.len.ensures.len in
     let steps = subst (λ fault. MakesStep g.F.StreamFilter.filter g.F.StreamFilter.reached g.F.StreamFilter.known c.args.mode
-    c.saturating_sub-room.result (held c.args.from.now c.args.dir).bytes (Err fault) c.copied-next.result c.step_of.new.filter c.new-made.result.items
-    c.step_of.new.made.items) c.in-Err-BadByte.field-0-is c.in-Err-BadByte.ensures.steps in
+    c.saturating_sub-room.result (held c.args.from.now c.args.dir).bytes (Err fault) c.copied-next.result c.step_of.new.filter
+    c.new-made.result.items c.step_of.new.made.items) c.in-Err-BadByte.field-0-is c.in-Err-BadByte.ensures.steps in
     record {
       passes = passed-bad _ _ _ c.args.dir c.args.limit c.args.mode
           (record { from = c.args.from.now; to = c.args.to.now; by = c.args.filter.now }) c.copied-next.result c.step_of.new.filter

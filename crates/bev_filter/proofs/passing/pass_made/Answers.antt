@@ -12,8 +12,8 @@ returns-in-Ok-clause-passes c =
     let p : Crossing = record { from = c.args.from.now; to = c.args.to.now; filter = c.args.filter.now } in
     let empty = c.new-made.ensures.items in
     let left = c.saturating_sub-room.ensures ∙ ap (λ n. c.args.limit - n) c.len.ensures.len in
-    let e = step-beside c.args.dir p c.args.limit c.saturating_sub-room.result c.args.mode c.copied-next.result (held c.args.from.now c.args.dir).bytes
-    c.new-made.result.items c.copied-next.ensures refl empty left in
+    let e = step-beside c.args.dir p c.args.limit c.saturating_sub-room.result c.args.mode c.copied-next.result
+    (held c.args.from.now c.args.dir).bytes c.new-made.result.items c.copied-next.ensures refl empty left in
     let h = subst (λ (s : Stepped). Answers (Ok c.in-Ok.step) s c.copied-next.result c.make_of-answer.new.filter c.new-made.result.items
     c.make_of-answer.new.made.items) e c.in-Ok.ensures.answers in (
       h.0,
@@ -27,8 +27,8 @@ returns-in-BadByte-clause-passes c =
     let p : Crossing = record { from = c.args.from.now; to = c.args.to.now; filter = c.args.filter.now } in
     let empty = c.new-made.ensures.items in
     let left = c.saturating_sub-room.ensures ∙ ap (λ n. c.args.limit - n) c.len.ensures.len in
-    let e = step-beside c.args.dir p c.args.limit c.saturating_sub-room.result c.args.mode c.copied-next.result (held c.args.from.now c.args.dir).bytes
-    c.new-made.result.items c.copied-next.ensures refl empty left in
+    let e = step-beside c.args.dir p c.args.limit c.saturating_sub-room.result c.args.mode c.copied-next.result
+    (held c.args.from.now c.args.dir).bytes c.new-made.result.items c.copied-next.ensures refl empty left in
     let refused = subst (λ (s : Stepped). Answers (Err c.in-Err.fault) s c.copied-next.result c.make_of-answer.new.filter
     c.new-made.result.items c.make_of-answer.new.made.items) e c.in-Err.ensures.answers in
     let h = subst (λ (fault : FilterFault). Answers (Err fault) (passing c.args.dir p c.args.limit c.args.mode) c.copied-next.result
