@@ -1,7 +1,7 @@
 -- Where something that a table wants can be done, a poll marks something: a write, a read of an end that isn't bulky, or what the turn
 -- leaves.
-use Rattle.std.proofs.Common.{◌≡◌, ◌∙◌, ℕ, zero, suc, ◌*◌, ◌<◌, ◌==◌, length, Bool, true, false, cond, ◌&&◌, ◌||◌, not, List, []}
-use Rattle.std.proofs.Common.{◌∷◌, Option, None, map, refl, sym, ap, subst, arith, inl, inr, get_or, eq-eqb}
+use Rattle.std.proofs.Common.{◌≡◌, ◌∙◌, ℕ, zero, suc, ◌*◌, ◌<◌, ◌==◌, length, Bool, true, false, cond, ◌&&◌, ◌||◌, not, List}
+use Rattle.std.proofs.Common.{[], ◌∷◌, Option, None, Some, map, refl, sym, ap, subst, arith, inl, inr, get_or, eq-eqb}
 use Rattle.std.specs.Prelude.{filter}
 use Rattle.std.specs.List.{list_any}
 use Rattle.std.proofs.lemmas.Bool.{and_parts, both_ways, cases_Bool, cases_eq, cases_lt, or_cases, or_left, or_right}
@@ -13,7 +13,7 @@ use Rattle.ev_port.specs.Table.{WantsValue, is_marked, named, row, row_by, rows_
 use Rattle.ev_port.proofs.NamedLemmas.{number-side_of}
 use Rattle.mio_port.specs.declared.end.End.{End}
 use Rattle.mio_port.specs.declared.turn.Turn.{Turn}
-use Rattle.mio_port.specs.EndPlaces.{is_bulky, is_prompt, is_read_ready, is_write_ready, wants_ready}
+use Rattle.mio_port.specs.EndPlaces.{is_behind, is_bulky, is_prompt, is_read_ready, is_write_ready, wants_ready}
 use Rattle.mio_port.specs.ReadTurns.{MarkedTable, SomeMarked, TurnWent, marked_in_turn, is_read_now, other_end, peer_drains, takes_turns}
 use Rattle.mio_port.proofs.TableMarkLemmas.{ready-parts}
 use Rattle.mio_port.proofs.TurnLemmas.{turn-takes}
@@ -74,6 +74,11 @@ listed m (w ∷ ws) h =
           omega (arith, e, more))
     ]
 
+-- an end that is behind is ready for writing
+behind-ready : (place : Option End) → is_behind place ≡ true → is_write_ready place ≡ true
+behind-ready None h = h
+behind-ready (Some e) h = (and_parts e.write_ready e.behind h).0
+
 -- What is marked of one row
 
 module _ (t : WantsValue) (ends : List (Option End)) where
@@ -128,8 +133,9 @@ module _ (t : WantsValue) (ends : List (Option End)) where
       let bulky = is_bulky (get_or ends who None) in
       let parts = and_parts (t.reads who) bulky takes in
       elim (cases_Bool (peer_drains t ends who)) [
-        | inl drains ↦ (let p = and_parts (t.writes (other_end who)) (writable (other_end who)) drains in
-            write-listed who (other_end who) p.0 p.1)
+        | inl drains ↦ (let place = get_or ends (other_end who) None in
+            let p = and_parts (t.writes (other_end who)) (is_behind place) drains in
+            write-listed who (other_end who) p.0 (behind-ready place p.1))
         | inr dry ↦ read-listed who who parts.0
             (or_right (is_prompt (get_or ends who None)) ((who == who) && (bulky && not (peer_drains t ends who)))
             (λ i. eq-eqb who who refl i && (parts.1 i && not (dry i))))

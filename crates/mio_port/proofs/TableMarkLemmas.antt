@@ -19,7 +19,7 @@ use Rattle.number_set.specs.Numbers.{NumberSetValue}
 use Rattle.mio_port.specs.declared.end.End.{End}
 use Rattle.mio_port.specs.declared.turn.Turn.{Turn}
 use Rattle.mio_port.specs.EndPlaces.{is_bulky, is_prompt, is_read_ready, is_write_ready, can_write, wants_ready, unmarked}
-use Rattle.mio_port.specs.ReadTurns.{MarkedTable, in_turn, marked_in_turn, marked_with, is_read_now, other_end, peer_drains, takes_turns}
+use Rattle.mio_port.specs.ReadTurns.{MarkedTable, in_turn, marked_in_turn, marked_with, is_read_now, peer_drains, takes_turns}
 
 -- The sets and the ends
 
@@ -98,10 +98,10 @@ module _ (t : WantsValue) (ends : List (Option End)) (prompt bulky writable : Nu
     (prompts : Tells prompt ends is_prompt) (bulks : Tells bulky ends is_bulky) (writes : Tells writable ends is_write_ready) where
   -- it may be read by the sets
   abbrev may : ℕ → Bool
-  may n = bulky.has n && not (t.writes (other_end n) && writable.has (other_end n))
+  may n = bulky.has n && not (peer_drains t ends n)
 
   may-ends : (n : ℕ) → may n ≡ (is_bulky (get_or ends n None) && not (peer_drains t ends n))
-  may-ends n = λ i. bulks n i && not (t.writes (other_end n) && writes (other_end n) i)
+  may-ends n = λ i. bulks n i && not (peer_drains t ends n)
 
   at_who : (n : ℕ) → (n == who) ≡ true → may who ≡ (is_bulky (get_or ends n None) && not (peer_drains t ends n))
   at_who n is = ap may (sym (eqb-true n who is)) ∙ may-ends n

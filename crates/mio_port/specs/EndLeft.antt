@@ -34,8 +34,8 @@ ReadLeft into read.NotYet old new =
     OneOf (read_end old attempt.WouldBlock into) (read_end old attempt.Interrupted into) (read_end old attempt.Absent into) new
 ReadLeft into read.Failed old new = new ≡ read_end old attempt.Failed into
 
--- The end behind one write of these bytes to its connection, by the answer: one that took them all leaves it ready. A write that took none
--- failed.
+-- The end behind one write of these bytes to its connection, by the answer: one that took them all leaves it ready, and it isn't behind. A
+-- write that took none failed.
 abbrev pub WriteLeft : List ℕ → WriteAnswer → End → End → Type 0
 WriteLeft from (write.Took n) old new = new ≡ written_end old (attempt.Moved n) from
 WriteLeft from write.NotYet old new =

@@ -67,6 +67,11 @@ abbrev pub is_write_ready : Option End → Bool
 is_write_ready None = false
 is_write_ready (Some e) = e.write_ready
 
+-- it is ready for writing, and its last write took less than it was given
+abbrev pub is_behind : Option End → Bool
+is_behind None = false
+is_behind (Some e) = e.write_ready && e.behind
+
 abbrev pub can_read : List (Option End) → Want → Bool
 can_read ends want = want.read && is_read_ready (slice_index_or ends (number want.side) None)
 

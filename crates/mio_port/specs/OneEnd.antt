@@ -16,7 +16,15 @@ use Rattle.mio_port.specs.Sockets.{with_call}
 
 -- an end of which nothing was reported and that met no fault
 abbrev pub fresh : Connection → Bool → End
-fresh by write_ready = record { connection = by; read_ready = false; write_ready = write_ready; hung_up = false; bulky = false; faults = 0 }
+fresh by write_ready = record {
+  connection = by;
+  read_ready = false;
+  write_ready = write_ready;
+  hung_up = false;
+  bulky = false;
+  behind = false;
+  faults = 0;
+}
 
 -- the kernel reported this: an error and a hang-up make it ready both ways
 abbrev pub noticed_end : End → Event → End
@@ -55,11 +63,15 @@ after_read e attempt.Absent room = e
 abbrev pub read_end : End → Attempt → List ℕ → End
 read_end e a into = after_read (told_end e (call.Read a, into)) a (length into)
 
--- a write that came short of what was offered, and one that would block leave no room to write
+-- A write that came short of what was offered, and one that would block leave no room to write. The end is behind after such a one, until
+-- one takes all.
 abbrev pub after_write : End → Attempt → ℕ → End
 after_write e (attempt.Moved count) offered =
-    if count == 0 then faulty e else record e { write_ready = e.write_ready && not (nat_lt count offered) }
-after_write e attempt.WouldBlock offered = record e { write_ready = false }
+    if count == 0 then faulty e else record e {
+      write_ready = e.write_ready && not (nat_lt count offered);
+      behind = nat_lt count offered;
+    }
+after_write e attempt.WouldBlock offered = record e { write_ready = false; behind = true }
 after_write e attempt.Interrupted offered = e
 after_write e attempt.Failed offered = faulty e
 after_write e attempt.Absent offered = e
@@ -87,4 +99,4 @@ ended_end e = told_end e (call.EndedWriting, [])
 
 -- a closed end has no connection, and keeps its count
 abbrev pub closed_end : End → End
-closed_end e = record e { connection = connection.Closed; read_ready = false; write_ready = false; bulky = false }
+closed_end e = record e { connection = connection.Closed; read_ready = false; write_ready = false; bulky = false; behind = false }

@@ -11,7 +11,7 @@ use Rattle.ev_port.specs.declared.port.Want.{Want}
 use Rattle.ev_port.specs.Table.{WantsValue, is_marked, named}
 use Rattle.mio_port.specs.declared.end.End.{End}
 use Rattle.mio_port.specs.declared.turn.Turn.{Turn}
-use Rattle.mio_port.specs.EndPlaces.{is_prompt, is_bulky, is_write_ready, can_write, wants_ready}
+use Rattle.mio_port.specs.EndPlaces.{is_prompt, is_bulky, is_behind, can_write, wants_ready}
 
 -- Whose turn it is
 
@@ -45,11 +45,11 @@ TurnWent takes old new = TurnBy (nat_lt 0 old.left && takes old.who) takes old n
 abbrev pub other_end : ℕ → ℕ
 other_end n = if n % 2 == 0 then n + 1 else n - 1
 
--- what waits for an end's peer can be written there
+-- more waits for an end's peer than the last write took, and the peer can be written
 abbrev pub peer_drains : WantsValue → List (Option End) → ℕ → Bool
-peer_drains t ends n = t.writes (other_end n) && is_write_ready (slice_index_or ends (other_end n) None)
+peer_drains t ends n = t.writes (other_end n) && is_behind (slice_index_or ends (other_end n) None)
 
--- A ready end may be read if it isn't bulky, or if the turn is its own and nothing can be written to its peer first.
+-- A ready end may be read if it isn't bulky, or if the turn is its own and its peer doesn't drain first.
 abbrev pub is_read_now : WantsValue → List (Option End) → ℕ → ℕ → Bool
 is_read_now t ends who n =
     is_prompt (slice_index_or ends n None)

@@ -26,7 +26,7 @@ pub(crate) enum Connection {
 
 /// One end. The bits say that the kernel reported it ready for a way and that no call has found otherwise since; the end
 /// is hung up once the kernel told that the peer sends no more, or of an error. It is bulky if its last read filled the room
-/// that it was given.
+/// that it was given. It is behind if its last write took less than it was given, or would have blocked.
 ///
 /// Own.
 #[derive(Drop)]
@@ -36,6 +36,7 @@ pub(crate) struct End {
     write_ready: bool,
     hung_up: bool,
     bulky: bool,
+    behind: bool,
     faults: u64,
 }
 
@@ -93,6 +94,7 @@ impl End {
             write_ready: false,
             hung_up: false,
             bulky: false,
+            behind: false,
             faults: 0,
         }
     }
@@ -107,6 +109,7 @@ impl End {
             write_ready: true,
             hung_up: false,
             bulky: false,
+            behind: false,
             faults: 0,
         }
     }
@@ -127,6 +130,12 @@ impl End {
         ensures { result ≡ self.now.write_ready }
     {
         self.write_ready
+    }
+
+    pub(crate) fn is_behind(&self) -> bool
+        ensures { result ≡ self.now.behind }
+    {
+        self.behind
     }
 
     /// An error and a hang-up make it ready both ways.
@@ -201,11 +210,13 @@ impl End {
                 WriteAnswer::Failed
             }
             Attempt::Moved(count) => {
-                self.write_ready = self.write_ready && count >= offered;
+                self.behind = count < offered;
+                self.write_ready = self.write_ready && !self.behind;
                 WriteAnswer::Took(count)
             }
             Attempt::WouldBlock => {
                 self.write_ready = false;
+                self.behind = true;
                 WriteAnswer::NotYet
             }
             Attempt::Interrupted | Attempt::Absent => WriteAnswer::NotYet,
@@ -258,5 +269,6 @@ impl End {
         self.read_ready = false;
         self.write_ready = false;
         self.bulky = false;
+        self.behind = false;
     }
 }

@@ -12,8 +12,9 @@ ghost use Rattle.mio_port.specs.EndLeft.{LeftAt, PlaceLeft, ReadLeft, WriteLeft,
 ghost use Rattle.mio_port.specs.PortCalls.{OthersStay};
 ghost use Rattle.mio_port.specs.OneEnd.{noticed_end, ended_end, closed_end};
 ghost use Rattle.mio_port.specs.EndPlaces.{faults_of, CountsStay, CountsAt, PlacesStay, PlaceWent, holds, is_made};
-ghost use Rattle.mio_port.specs.EndPlaces.{is_bulky, is_prompt, is_write_ready, can_read, can_write, wants_ready, marked, unmarked};
-ghost use Rattle.mio_port.specs.ReadTurns.{marked_in_turn, marked_with, other_end, takes_turns, TurnWent};
+ghost use Rattle.mio_port.specs.EndPlaces.{is_behind, is_bulky, is_prompt, is_write_ready, can_read, can_write, wants_ready};
+ghost use Rattle.mio_port.specs.EndPlaces.{marked, unmarked};
+ghost use Rattle.mio_port.specs.ReadTurns.{marked_in_turn, marked_with, peer_drains, takes_turns, TurnWent};
 
 use crate::end::End;
 use crate::turn::{Turn, other_end, wants_at};
@@ -25,7 +26,7 @@ use std::alloc::{AllocError, Global};
 
 /// The ends of all links: each link's In end at twice its number, and its Out end behind it. Beside them stand the numbers
 /// of the ends that are ready for reading, those whose last read filled its room in a set of their own, and of those that are
-/// ready for writing, so that a poll need not look at an end.
+/// ready for writing, so that a poll looks at one end at most.
 ///
 /// Own.
 #[derive(Drop)]
@@ -155,16 +156,28 @@ fn keep_up(
     writable.put(number, can_write);
 }
 
-// A bulky end that is ready, to whose peer nothing can be written.
-fn is_read_first(wants: &WantTable, who: usize, bulky: &NumberSet, writable: &NumberSet) -> bool
-    ensures { result ≡ (bulky.now.has who && not (wants.now.writes (other_end who) && writable.now.has (other_end who))) }
+// The end with this number can be written, and its last write took less than it was given.
+fn is_behind(ends: &[Option<End>], number: usize) -> bool
+    ensures { result ≡ is_behind (slice_index_or ends.now number None) }
+{
+    match ends.get(number) {
+        Some(Some(end)) => end.is_write_ready() && end.is_behind(),
+        _ => false,
+    }
+}
+
+// A bulky end that is ready. It isn't read while more waits for its peer than the last write took, and the peer can be written.
+// A peer that keeps up is given what was read a turn before, at most one read's worth (16,384 bytes in the relay), and doesn't
+// hold it up: the one is read and the other written in one turn.
+fn is_read_first(wants: &WantTable, who: usize, bulky: &NumberSet, ends: &[Option<End>]) -> bool
+    ensures { result ≡ (bulky.now.has who && not (peer_drains wants.now ends.now who)) }
 {
     if !bulky.contains(who) {
         return false;
     }
-    let other = other_end(who);
-    let (_read, write) = wants_at(wants, other);
-    !(write && writable.contains(other))
+    let peer = other_end(who);
+    let (_read, write) = wants_at(wants, peer);
+    !(write && is_behind(ends, peer))
 }
 
 // Lists what can be done, as if the end with this number could be read too.
@@ -313,8 +326,8 @@ impl Ends {
             || wants.is_any_ready(&self.bulky, &self.writable)
     }
 
-    /// Lists in a table what it wants and can be done, with the marks; of the bulky ends only that whose turn it is by now.
-    /// Only the sets are looked at.
+    /// Lists in a table what it wants and can be done, with the marks; of the bulky ends only that whose turn it is by now, and
+    /// not while its peer is behind and can be written. Only the sets are looked at, and that peer.
     pub(crate) fn mark_table(&mut self, turn: Turn, wants: &mut WantTable) -> Turn
         ensures stays { self.new.ends ≡ self.old.ends }
         ensures rows { RowsStay wants.old wants.new }
@@ -322,7 +335,7 @@ impl Ends {
         ensures list { wants.new.list ≡ filter is_marked (map (marked_in_turn wants.old self.old.ends.items result.who) (named wants.old)) }
     {
         let turn = turn.next(wants, &self.bulky);
-        if is_read_first(wants, turn.who, &self.bulky, &self.writable) {
+        if is_read_first(wants, turn.who, &self.bulky, &self.ends) {
             mark_with(&mut self.prompt, &self.writable, turn.who, wants);
         } else {
             wants.mark_ready(&self.prompt, &self.writable);

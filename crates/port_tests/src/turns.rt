@@ -1,7 +1,8 @@
-// Bulky ends over loopback: they are read in turns, and not before what can be written to their peer.
+// Bulky ends over loopback: they are read in turns, and not while their peer is behind and can be written.
 use crate::acts::{IN_0, OUT_0, READING, WRITING, want};
 use crate::loopback::{RealPort, World, is_marked, new_world};
-use ev_port::{Polled, Port, ReadAnswer, Want, WantTable};
+use crate::steps::{empties, fills};
+use ev_port::{Polled, Port, ReadAnswer, Want, WantTable, WriteAnswer};
 use ev_types::SideId;
 use std::alloc::Global;
 use std::io::Write;
@@ -28,12 +29,11 @@ fn reads_full(port: &mut RealPort<'_>, end: SideId) -> bool {
     is_marked(port, end, READING) && port.read(end, &mut [0; 8]) == ReadAnswer::Got(8)
 }
 
-/// Each of so many polls lists this want and no other.
-fn lists(port: &mut RealPort<'_>, table: &mut WantTable, owed: Want, polls: u32) -> bool {
+/// Each of so many polls lists these wants and no other.
+fn lists(port: &mut RealPort<'_>, table: &mut WantTable, owed: &[Want], polls: u32) -> bool {
     for _ in 0..polls {
         let polled = port.poll_table(table, false, Some(0));
-        let is_owed = matches!(table.list(), [only] if *only == owed);
-        if polled != (Polled::Ready { accept: false }) || !is_owed {
+        if polled != (Polled::Ready { accept: false }) || table.list() != owed {
             return false;
         }
     }
@@ -68,33 +68,52 @@ fn wants(table: &mut WantTable, side: SideId, read: bool, write: bool) {
 
 /// Whether each of two bulky ends has its turn, one alone has all, and an end whose read came short needs none.
 fn takes_turns(port: &mut RealPort<'_>, table: &mut WantTable) -> [bool; 5] {
-    let first = lists(port, table, READS_OUT, POLLS);
-    let second = lists(port, table, READS_IN, POLLS);
-    let again = lists(port, table, READS_OUT, 1);
+    let first = lists(port, table, &[READS_OUT], POLLS);
+    let second = lists(port, table, &[READS_IN], POLLS);
+    let again = lists(port, table, &[READS_OUT], 1);
     wants(table, OUT_0, false, false);
-    let alone = lists(port, table, READS_IN, 2 * POLLS);
+    let alone = lists(port, table, &[READS_IN], 2 * POLLS);
     wants(table, OUT_0, true, false);
     port.read(OUT_0, &mut [0; 16]);
-    let short = lists(port, table, READS_IN, 2 * POLLS);
+    let short = lists(port, table, &[READS_IN], 2 * POLLS);
     [first, second, again, alone, short]
 }
 
-/// Whether a write that can be done is listed alone, and behind it what has the turn.
-fn drains_first(port: &mut RealPort<'_>, table: &mut WantTable) -> [bool; 2] {
+/// The far end reads so many bytes, and the Out end can be written again.
+fn drains(world: &mut World<'_>, count: usize) -> Result<bool, Fail> {
+    let Some(far) = &mut world.far else {
+        return Err(Fail::new("the far end went"));
+    };
+    Ok(empties(far, count)? && is_marked(&mut world.port, OUT_0, WRITING))
+}
+
+/// Whether what has the turn is read beside a write to its peer: before the first one, not behind one that came short, unless
+/// the peer is full or wants no more, and again behind one that took all.
+fn drains_first(world: &mut World<'_>, table: &mut WantTable) -> Result<[bool; 5], Fail> {
     let writes = want((OUT_0, WRITING, WRITING));
     wants(table, OUT_0, false, true);
-    let drains = lists(port, table, writes, POLLS);
+    let first = lists(&mut world.port, table, &[READS_IN, writes], POLLS);
+    let Some(taken) = fills(&mut world.port, OUT_0) else {
+        return Err(Fail::new("the end was never full"));
+    };
+    let full = lists(&mut world.port, table, &[READS_IN], 1);
+    let drained = drains(world, taken)?;
+    let behind = drained && lists(&mut world.port, table, &[writes], POLLS);
     wants(table, OUT_0, false, false);
-    [drains, lists(port, table, READS_IN, 1)]
+    let unwanted = lists(&mut world.port, table, &[READS_IN], 1);
+    wants(table, OUT_0, false, true);
+    let took = world.port.write(OUT_0, b"x") == WriteAnswer::Took(1);
+    let again = took && lists(&mut world.port, table, &[READS_IN, writes], POLLS);
+    Ok([first, full, behind, unwanted, again])
 }
 
 fn plays(
     world: &mut World<'_>,
     table: &mut WantTable,
-) -> Result<(bool, [bool; 5], [bool; 2]), Fail> {
+) -> Result<(bool, [bool; 5], [bool; 5]), Fail> {
     let is_bulky = sends_both(world)?;
     let turns = takes_turns(&mut world.port, table);
-    Ok((is_bulky, turns, drains_first(&mut world.port, table)))
+    Ok((is_bulky, turns, drains_first(world, table)?))
 }
 
 #[test]
@@ -104,6 +123,6 @@ fn bulky_ends_are_read_in_turns(rt: HostRuntime) -> Result<(), Fail> {
     let played = plays(&mut world, &mut table);
     drop(world);
     drop(table);
-    assert_eq!(rt; played?, (true, [true; 5], [true; 2]));
+    assert_eq!(rt; played?, (true, [true; 5], [true; 5]));
     Ok(())
 }
