@@ -1,7 +1,7 @@
 // A buffer that nobody but its bufferevent reaches. So it is frozen at no end, and has no reference and no size callback: all of it is
 // its bytes.
 ghost use Rattle.std.specs.Prelude.{◌≡◌, ◌≤◌, ◌<◌, ◌+◌, ◌-◌, ◌*◌, ◌^◌, ◌++◌, ◌==◌, [], length, drop, take, min, max, None, true, false};
-ghost use Rattle.std.specs.Prelude.{if◌then◌else◌, is_some, OnOk, OnErr, IfOk, IfSome, IsOk};
+ghost use Rattle.std.specs.Prelude.{if◌then◌else◌, is_some, vec_len, OnOk, OnErr, IfOk, IfSome, IsOk};
 ghost use Rattle.byte_queue.specs.MemoryAnswers.{AnswersOr, fault_of};
 ghost use Rattle.byte_queue.specs.QueuedBytes.{most_spare};
 ghost use Rattle.bev_core.specs.BevValue.{nothing};
@@ -138,20 +138,24 @@ impl OwnBuffer {
         }
     }
 
-    /// Appends: in room that it makes, or where no memory is left for that in the room of an empty queue that has room for all.
-    pub(crate) fn feed_or_swap(&mut self, bytes: &[u8], spare: &mut ByteQueue)
+    /// Appends the first n bytes of a block, as `append_block` of byte_queue; or where no memory is left for that, in the room of an empty
+    /// queue that has room for all.
+    pub(crate) fn feed_or_swap(&mut self, block: &mut Vec<u8>, n: usize, spare: &mut ByteQueue)
         requires one_piece { self.old.chunked ≡ false }
-        requires room { length self.old.held.bytes + length bytes.now ≤ spare.old.spare }
+        requires within { n ≤ vec_len block.old }
+        requires room { length self.old.held.bytes + n ≤ spare.old.spare }
         requires empty { spare.old.items ≡ [] }
-        ensures fed { self.new ≡ more self.old bytes.now self.new.held.spare }
+        ensures fed { self.new ≡ more self.old (take n block.old.items) self.new.held.spare }
         ensures most { self.new.held.spare ≤ max spare.old.spare (most_spare self.old.held.spare 0 (length self.old.held.bytes)) }
-        ensures kept { length bytes.now ≤ self.old.held.spare → spare.new ≡ spare.old }
-        ensures used { length bytes.now ≤ self.old.held.spare → self.new.held.spare + length bytes.now ≡ self.old.held.spare }
+        ensures kept { n ≤ self.old.held.spare → spare.new ≡ spare.old }
+        ensures used { n ≤ self.old.held.spare → self.new.held.spare + n ≡ self.old.held.spare }
         ensures empty { spare.new.items ≡ [] }
+        ensures block { vec_len block.new ≡ vec_len block.old }
     {
         if let Kept::Piece(queue) = &mut self.kept {
-            if queue.append(bytes).is_err() {
+            if queue.append_block(block, n).is_err() {
                 take_room(queue, spare);
+                let (bytes, _) = block.as_slice().split_at(n);
                 queue.push(bytes);
             }
         }

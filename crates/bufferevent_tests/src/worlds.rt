@@ -237,9 +237,12 @@ fn bring(world: &mut World, at: usize, bytes: &[u8]) -> Result<(), NoMemory>
     }
     let held = world.bev(at).len(Dir::Read);
     let all = held.checked_add(bytes.len()).ok_or(NoMemory)?;
-    let mut spare = SpareRoom::new(world.bev(at).allocator());
+    let alloc = world.bev(at).allocator();
+    let mut spare = SpareRoom::new(alloc);
     spare.reserve(all)?;
-    world.feed_at(at, bytes, 7, &mut spare);
+    let mut block = Vec::new(alloc);
+    block.extend_from_slice(bytes)?;
+    world.feed_at(at, &mut block, bytes.len(), 7, &mut spare);
     Ok(())
 }
 

@@ -143,6 +143,29 @@ impl ByteQueue {
         self.move_before(bytes, 0)
     }
 
+    /// Appends the first n bytes of a block, as `append` does. Where the queue has no byte, and room for just what the block is long,
+    /// they exchange their blocks and no byte is copied, if the block keeps no memory more. The block stays as long. After a refusal
+    /// nothing has changed.
+    pub fn append_block(&mut self, block: &mut Vec<u8>, n: usize) -> Result<(), AllocError>
+        requires within { n ≤ vec_len block.old }
+        ensures items { OnOk result (self.new.items ≡ self.old.items ++ take n block.old.items) }
+        ensures most { self.new.spare ≤ most_spare self.old.spare 0 (length self.old.items) }
+        ensures there { n ≤ self.old.spare → IsOk result }
+        ensures used { n ≤ self.old.spare → self.new.spare + n ≡ self.old.spare }
+        ensures block { vec_len block.new ≡ vec_len block.old }
+        ensures err { OnErr result ((self.new ≡ self.old) × (block.new.items ≡ block.old.items)) }
+    {
+        let len = block.len();
+        if self.len() == 0 && self.kept.len() == len && block.capacity() == len {
+            swap(&mut self.kept, block);
+            self.start = 0;
+            self.end = n;
+            return Ok(());
+        }
+        let (bytes, _) = block.as_slice().split_at(n);
+        self.append(bytes)
+    }
+
     /// Appends in room that was made before. Takes no memory; linear in the number of bytes that are appended.
     pub fn push(&mut self, bytes: &[u8])
         requires { length bytes.now ≤ self.old.spare }

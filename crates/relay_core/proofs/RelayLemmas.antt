@@ -1,5 +1,7 @@
 -- The relay's state as its links and its groups change, and what is so of each side.
 use Rattle.std.proofs.Common.{◌≡◌, ◌≢◌, ◌≤◌, ◌<◌, ℕ, zero, suc, Bool, true, false, Result, Ok, Err, MatchResult, if◌then◌else◌, List, []}
+use Rattle.std.specs.Prelude.{MatchBool, ◌⊎◌}
+use Rattle.std.proofs.Common.{inl, inr}
 use Rattle.std.proofs.Common.{◌∷◌, slice_index_or, Option, Some, None, option_map, length, nat_eq, refl, sym, ◌∙◌, ap, subst, arith}
 use Rattle.std.proofs.lemmas.List.Elements.{All-set, All-head, All-tail, All-nil, All-cons, All-append}
 use Rattle.std.specs.Prelude.{slice_set, map, min, ◌-◌, IfSome}
@@ -19,19 +21,22 @@ use Rattle.rate_group.specs.Steps.{changed_at, spent_in, refilled_to, spent, joi
 use Rattle.relay_model.specs.Plain.{PlainSide, Standing, no_side, first_limit}
 use Rattle.relay_model.specs.Moments.{active_at}
 use Rattle.relay_state.specs.Running.{Gauge, no_gauge, gauge_after, gauge_begun, gauge_set}
-use Rattle.relay_state.specs.State.{State, lane_at, lane_got, with_lane, with_plain}
+use Rattle.relay_state.specs.State.{State, lane_at, lane_got, with_lane, with_plain, gauges_after}
 use Rattle.relay_model.specs.Rooms.{at_most, most_at_once, read_mark, may_read, may_write}
 use Rattle.relay_state.specs.Opening.{joined_where}
+use Rattle.relay_state.specs.Closing.{in_side, out_side}
 use Rattle.relay_state.specs.Passage.{Passage, read_part}
+use Rattle.relay_state.specs.Serving.{with_got}
 use Rattle.relay_state.specs.Rooms.{allowance, share, within_rates, read_room, write_room, waiting_for, input_length}
-use Rattle.relay_state.specs.Passing as state
 use Rattle.relay_state.specs.Passing.{with_bad, read_run}
 use Rattle.ev_types.specs.declared.answer.ReadAnswer.TheVariants as read
 use Rattle.relay_model.specs.Serve as model
 use Rattle.relay_sides.specs.Links as links
 use Rattle.relay_sides.specs.Links.{Links, change_side, opening_side, with_link}
 use Rattle.relay_sides.specs.declared.opening.NewSide.{NewSide}
+use Rattle.relay_sides.specs.LinkPasses.{PassedLink, PartlyPassedLink, NoRoundOfLinkChanges}
 use Rattle.relay_sides.specs.KeptLimits.{IsAllowed}
+use Rattle.relay_core.specs.BothPassed.{PassedBoth, PartlyPassedBoth, BothStandStill}
 use Rattle.relay_core.specs.RelayValue.{RelayValue}
 use Rattle.relay_core.specs.RelayView.{state_with, relay_of, AreSound, HasGroups, IsSound, IsSoundSide}
 use Rattle.relay_core.specs.GivenGroups.{group_given}
@@ -150,10 +155,14 @@ module _ (g : Settings) (time : ℕ) (untimed : Bool) where
       (still_sound k (change_side e (with_bad x.from_bad) k) e (with_bad x.from_bad) h (λ z. z) refl refl) (λ z. z)
       (ap (λ (z : Links). z.sides) is) (ap (λ (z : Links). z.gauges) is)
 
-  pub passed_sound : (hold : ℕ) (k j : Links) (e : SideId) (T E : Type 0) (result : Result T E) → AreSound g time untimed k →
-      MatchResult result (λ _. links.PassedFrom hold k e j) (λ _. links.PartlyPassed hold k e j) → AreSound g time untimed j
-  passed_sound hold k j e T E (Ok a) h p = passage_sound k j e p.0 h p.2
-  passed_sound hold k j e T E (Err a) h p = passage_sound k j e p.0 h p.2
+  pub passed_sound : (hold : ℕ) (k j : Links) (link : ℕ) (E : Type 0) (result : Result Bool E) → AreSound g time untimed k →
+      MatchResult result (λ changed. PassedLink hold k link changed j) (λ _. PartlyPassedLink hold k link j) → AreSound g time untimed j
+  passed_sound hold k j link E (Ok a) h p =
+      passage_sound p.0 j (out_side link) p.2.0 (passage_sound k p.0 (in_side link) p.1.0 h p.1.2) p.2.2
+  passed_sound hold k j link E (Err a) h p = elim p [
+    | inl q ↦ passage_sound k j (in_side link) q.0 h q.2
+    | inr q ↦ passage_sound q.0 j (out_side link) q.2.0 (passage_sound k q.0 (in_side link) q.1.0 h q.1.2) q.2.2
+  ]
 
   -- and as bytes are got
   pub got_sound : (k j : Links) (e : SideId) (bytes : List ℕ) → AreSound g time untimed k → j ≡ links.after_got time e bytes k →
@@ -342,6 +351,15 @@ abbrev pub got_unspent : State → SideId → List ℕ → State
 got_unspent s e bytes =
     with_lane e (lane_got bytes (lane_at s e)) (with_plain (model.after_read s.settings e (read.Got (length bytes)) s.plain) s)
 
+-- once so many were spent, they are got
+pub got_spent : (s y : State) (e : SideId) (bytes : List ℕ) (n : ℕ) → n ≡ length bytes →
+    y ≡ record s { gauges = gauges_after e dir.Read n s; groups = spent (number e) dir.Read n s.groups } →
+    read_run e (got_unspent y e bytes) ≡ read_run e (with_got s e bytes)
+got_spent s y e bytes n len is =
+    ap (λ (z : State). read_run e (got_unspent z e bytes)) is
+    ∙ ap (λ (k : ℕ). read_run e
+    (got_unspent (record s { gauges = gauges_after e dir.Read k s; groups = spent (number e) dir.Read k s.groups }) e bytes)) len
+
 module _ (v : RelayValue) (r : Inside) (is : relay_of r ≡ v) where
   -- and as it is seen
   pub no_rates : IsSound r → r.untimed ≡ true → HasNoRates v.state
@@ -359,40 +377,51 @@ module _ (v : RelayValue) (r : Inside) (is : relay_of r ≡ v) where
 
   -- passing
 
-  pub state_passes : (k : Links) (e : SideId) (T E : Type 0) (result : Result T E) →
-      MatchResult result (λ _. links.PassedFrom r.settings.hold r.sides.links e k)
-      (λ _. links.PartlyPassed r.settings.hold r.sides.links e k) →
-      MatchResult result (λ _. state.PassedFrom v.state e (state_with r k)) (λ _. state.PartlyPassed v.state e (state_with r k))
-  state_passes k e T E result h =
-      subst (λ (z : RelayValue). MatchResult result (λ _. state.PassedFrom z.state e (state_with r k))
-      (λ _. state.PartlyPassed z.state e (state_with r k)))
+  apart_inside : (j k : Links) → k ≢ j → state_with r k ≢ state_with r j
+  apart_inside j k differs = λ h.
+      let opened = ap (λ (s : State). s.plain.opened) h in
+      let sides = ap (λ (s : State). s.plain.sides) h in
+      let flows = ap (λ (s : State). s.plain.flows) h in
+      let lanes = ap (λ (s : State). s.lanes) h in
+      let gauges = ap (λ (s : State). s.gauges) h in
+      differs (λ i. record { opened = opened i; sides = sides i; flows = flows i; lanes = lanes i; gauges = gauges i })
+
+  changed_inside : (b : Bool) (old middle new : Links) → MatchBool b ((middle ≢ old) ⊎ (new ≢ middle)) ((middle ≡ old) × (new ≡ middle)) →
+      MatchBool b ((state_with r middle ≢ state_with r old) ⊎ (state_with r new ≢ state_with r middle))
+      ((state_with r middle ≡ state_with r old) × (state_with r new ≡ state_with r middle))
+  changed_inside true old middle new h = elim h [
+    | inl d ↦ inl (apart_inside old middle d)
+    | inr d ↦ inr (apart_inside middle new d)
+  ]
+  changed_inside false old middle new h = (ap (state_with r) h.0, ap (state_with r) h.1)
+
+  pub state_passes : (k : Links) (link : ℕ) (E : Type 0) (result : Result Bool E) →
+      MatchResult result (λ changed. PassedLink r.settings.hold r.sides.links link changed k)
+      (λ _. PartlyPassedLink r.settings.hold r.sides.links link k) →
+      MatchResult result (λ changed. PassedBoth v.state link changed (state_with r k)) (λ _. PartlyPassedBoth v.state link (state_with r k))
+  state_passes k link E result h =
+      subst (λ (z : RelayValue). MatchResult result (λ changed. PassedBoth z.state link changed (state_with r k))
+      (λ _. PartlyPassedBoth z.state link (state_with r k)))
       is (go result h)
     where
-      go : (a : Result T E) →
-          MatchResult a (λ _. links.PassedFrom r.settings.hold r.sides.links e k)
-          (λ _. links.PartlyPassed r.settings.hold r.sides.links e k) →
-          MatchResult a (λ _. state.PassedFrom (state_with r r.sides.links) e (state_with r k))
-          (λ _. state.PartlyPassed (state_with r r.sides.links) e (state_with r k))
-      go (Ok a) p = (p.0, p.1, ap (state_with r) p.2)
-      go (Err a) p = (p.0, p.1, ap (state_with r) p.2)
+      go : (a : Result Bool E) →
+          MatchResult a (λ changed. PassedLink r.settings.hold r.sides.links link changed k)
+          (λ _. PartlyPassedLink r.settings.hold r.sides.links link k) →
+          MatchResult a (λ changed. PassedBoth (state_with r r.sides.links) link changed (state_with r k))
+          (λ _. PartlyPassedBoth (state_with r r.sides.links) link (state_with r k))
+      go (Ok a) p = (
+        state_with r p.0,
+        (p.1.0, p.1.1, ap (state_with r) p.1.2),
+        (p.2.0, p.2.1, ap (state_with r) p.2.2),
+        changed_inside a r.sides.links p.0 k p.3,
+      )
+      go (Err a) p = elim p [
+        | inl q ↦ inl (q.0, q.1, ap (state_with r) q.2)
+        | inr q ↦ inr (state_with r q.0, (q.1.0, q.1.1, ap (state_with r) q.1.2), (q.2.0, q.2.1, ap (state_with r) q.2.2))
+      ]
 
-  pub state_still : (k : Links) (e : SideId) →
-      (k ≡ r.sides.links)
-      × (links.round_from r.settings.hold r.sides.links e (links.passage_at r.sides.links e) ≡ links.passage_at r.sides.links e) →
-      (state_with r k ≡ v.state) × (state.round_from v.state e (state.passage_at v.state e) ≡ state.passage_at v.state e)
-  state_still k e h =
-      subst (λ (z : RelayValue). (state_with r k ≡ z.state)
-      × (state.round_from z.state e (state.passage_at z.state e) ≡ state.passage_at z.state e)) is (ap (state_with r) h.0, h.1)
-
-  pub state_apart : (k : Links) → k ≢ r.sides.links → state_with r k ≢ v.state
-  state_apart k differs = λ h.
-      let all = h ∙ ap (λ (z : RelayValue). z.state) (sym is) in
-      let opened = ap (λ (s : State). s.plain.opened) all in
-      let sides = ap (λ (s : State). s.plain.sides) all in
-      let flows = ap (λ (s : State). s.plain.flows) all in
-      let lanes = ap (λ (s : State). s.lanes) all in
-      let gauges = ap (λ (s : State). s.gauges) all in
-      differs (λ j. record { opened = opened j; sides = sides j; flows = flows j; lanes = lanes j; gauges = gauges j })
+  pub state_still : (link : ℕ) → NoRoundOfLinkChanges r.settings.hold r.sides.links link → BothStandStill v.state link
+  state_still link h = subst (λ (z : RelayValue). BothStandStill z.state link) is (h.0, h.1)
 
 -- Less is claimed where fewer relays are without timeouts and limits.
 

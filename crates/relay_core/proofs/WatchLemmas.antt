@@ -21,12 +21,14 @@ use Rattle.relay_model.specs.Plain.{PlainSide, Standing, no_side}
 use Rattle.relay_model.specs.Asks.{enabled}
 use Rattle.relay_model.specs.Moments.{active_at}
 use Rattle.relay_model.proofs.PlainLemmas.{half-below}
+use Rattle.relay_state.specs.Closing.{in_side, out_side}
 use Rattle.relay_state.specs.Passage.{Passage, read_part}
 use Rattle.relay_state.specs.Passing.{with_bad}
 use Rattle.relay_state.specs.Opening.{joined_where}
 use Rattle.relay_state.specs.Running.{Gauge, no_gauge, gauge_after}
 use Rattle.relay_sides.specs.Links as links
 use Rattle.relay_sides.specs.Links.{Links, change_side, with_link}
+use Rattle.relay_sides.specs.LinkPasses.{PassedLink, PartlyPassedLink}
 use Rattle.relay_sides.specs.declared.opening.NewSide.{NewSide}
 use Rattle.relay_sides.specs.SidesValue.{SidesValue}
 use Rattle.relay_core.specs.RelayView.{IsSound, IsSoundSide}
@@ -230,11 +232,6 @@ module _ (w : RestingValue) (time : ℕ) (k : Links) (h : IsWatching w time k) w
           resting-parts m time (ap (λ xs. slice_index_or xs (number z) no_side) (sym sides))
           (ap (λ xs. slice_index_or xs (number z) no_gauge) (sym gauges)) two)
 
-  pub watching-passed : (hold : ℕ) (j : Links) (e : SideId) (T E : Type 0) (result : Result T E) →
-      MatchResult result (λ _. links.PassedFrom hold k e j) (λ _. links.PartlyPassed hold k e j) → IsWatching w time j
-  watching-passed hold j e T E (Ok a) p = watching-passage j e p.0 p.2
-  watching-passed hold j e T E (Err a) p = watching-passage j e p.0 p.2
-
   -- there are more places
   pub watching-wider : (v : RestingValue) → Lengthens w v → IsWatching v time k
   watching-wider v more = record {
@@ -309,11 +306,26 @@ watching-took w time k j e n h is =
 pub grouping-at : (g : NumberSetValue) (n m : ℕ) (members : List (ℕ × ℕ)) → m ≡ n → IsGrouping g n members → IsGrouping g m members
 grouping-at g n m members is h = subst (λ i. IsGrouping g i members) (sym is) h
 
-pub grouping-passed : (g : NumberSetValue) (members : List (ℕ × ℕ)) (hold : ℕ) (k j : Links) (e : SideId) (T E : Type 0)
-    (result : Result T E) → IsGrouping g k.opened members →
-    MatchResult result (λ _. links.PassedFrom hold k e j) (λ _. links.PartlyPassed hold k e j) → IsGrouping g j.opened members
-grouping-passed g members hold k j e T E (Ok a) h p = grouping-at g k.opened j.opened members (ap (λ (z : Links). z.opened) p.2) h
-grouping-passed g members hold k j e T E (Err a) h p = grouping-at g k.opened j.opened members (ap (λ (z : Links). z.opened) p.2) h
+pub grouping-passed : (g : NumberSetValue) (members : List (ℕ × ℕ)) (hold : ℕ) (k j : Links) (link : ℕ) (E : Type 0)
+    (result : Result Bool E) → IsGrouping g k.opened members →
+    MatchResult result (λ changed. PassedLink hold k link changed j) (λ _. PartlyPassedLink hold k link j) → IsGrouping g j.opened members
+grouping-passed g members hold k j link E (Ok a) h p =
+    grouping-at g k.opened j.opened members (ap (λ (z : Links). z.opened) p.2.2 ∙ ap (λ (z : Links). z.opened) p.1.2) h
+grouping-passed g members hold k j link E (Err a) h p = elim p [
+  | inl q ↦ grouping-at g k.opened j.opened members (ap (λ (z : Links). z.opened) q.2) h
+  | inr q ↦ grouping-at g k.opened j.opened members (ap (λ (z : Links). z.opened) q.2.2 ∙ ap (λ (z : Links). z.opened) q.1.2) h
+]
+
+-- both directions of a link were passed
+pub watching-passed : (w : RestingValue) (time : ℕ) (hold : ℕ) (k j : Links) (link : ℕ) (E : Type 0) (result : Result Bool E) →
+    IsWatching w time k →
+    MatchResult result (λ changed. PassedLink hold k link changed j) (λ _. PartlyPassedLink hold k link j) → IsWatching w time j
+watching-passed w time hold k j link E (Ok a) h p =
+    watching-passage w time p.0 (watching-passage w time k h p.0 (in_side link) p.1.0 p.1.2) j (out_side link) p.2.0 p.2.2
+watching-passed w time hold k j link E (Err a) h p = elim p [
+  | inl q ↦ watching-passage w time k h j (in_side link) q.0 q.2
+  | inr q ↦ watching-passage w time q.0 (watching-passage w time k h q.0 (in_side link) q.1.0 q.1.2) j (out_side link) q.2.0 q.2.2
+]
 
 -- a side left its group
 pub grouping-left : (g : NumberSetValue) (n : ℕ) (member : ℕ) (members new : List (ℕ × ℕ)) → new ≡ remove_entry (nat_eq member) members →

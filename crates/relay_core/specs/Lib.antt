@@ -12,3 +12,4 @@ pub mod Rateless
 pub mod Timeless
 pub mod Halts
 pub mod Answered
+pub mod BothPassed

@@ -1,5 +1,5 @@
 // Hooks: what is due becomes a batch, of which one reason after the other is fired at the hook of its side.
-ghost use Rattle.std.specs.Prelude.{◌≡◌, ◌≤◌, [], ◌∷◌, true, length, OnOk, MatchOption};
+ghost use Rattle.std.specs.Prelude.{◌≡◌, ◌≤◌, [], ◌∷◌, true, length, OnOk, IsOk, MatchOption};
 ghost use Rattle.relay_model.specs.Plain.{is_live};
 ghost use Rattle.relay_model.specs.Hooked.{asked_in};
 ghost use Rattle.relay_state.specs.Asking.{dispatching, left_to_fire};
@@ -38,12 +38,13 @@ impl Relay {
     }
 
     /// Makes room for the entries of one fire, and memory for the limits that it may set. Takes memory for the first one, and for limits
-    /// that were set since; constant.
+    /// that were set since, and none where there is room already; constant.
     ///
     /// Own.
     pub fn reserve_fire(&mut self) -> Result<(), NoMemory>
         ensures state { self.new.state ≡ self.old.state }
         ensures room { OnOk result (512 ≤ self.new.fire_room) }
+        ensures there { 512 ≤ self.old.fire_room → IsOk result }
     {
         self.ctl.log.clear();
         self.ctl.asks = MOST_ASKS;

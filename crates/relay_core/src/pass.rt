@@ -1,26 +1,24 @@
-// Passing a direction.
-ghost use Rattle.std.specs.Prelude.{◌≡◌, ◌≢◌, ◌<◌, MatchResult, true, false};
-ghost use Rattle.relay_state.specs.Passing.{passage_at, round_from, PassedFrom, PartlyPassed};
+// Passing a link.
+ghost use Rattle.std.specs.Prelude.{◌≡◌, ◌<◌, MatchResult, false};
+ghost use Rattle.relay_core.specs.BothPassed.{PassedBoth, PartlyPassedBoth, BothStandStill};
 
 use crate::relay::Relay;
-use ev_types::{NoMemory, SideId};
+use ev_types::NoMemory;
 
 impl Relay {
-    /// Passes the direction that begins at the side: rounds until one changes nothing. It answers whether the state changed; where it
-    /// did not, a round changes nothing either until another call does. Takes memory for what a round may make; want of it comes between
-    /// two rounds. Linear in the bytes that wait in the direction; constant where none does. Where nothing changed, no buffer of the
-    /// direction that has no byte holds memory.
+    /// Passes both directions of a link, that from In first: in each, rounds until one changes nothing. It answers whether the state
+    /// changed; where it did not, a round changes nothing either until another call does, and no buffer of the link that has no byte holds
+    /// memory. Takes memory for what a round may make; want of it comes between two rounds. Linear in the bytes that wait in the link;
+    /// constant where none does.
     ///
     /// Own.
-    pub fn pass(&mut self, from: SideId) -> Result<bool, NoMemory>
-        requires { from.link < self.old.state.plain.opened }
+    pub fn pass_link(&mut self, link: u32) -> Result<bool, NoMemory>
+        requires { link < self.old.state.plain.opened }
         ensures passed { MatchResult result
-            (λ _. PassedFrom self.old.state from self.new.state)
-            (λ _. PartlyPassed self.old.state from self.new.state) }
-        ensures still { result ≡ Ok false → (self.new.state ≡ self.old.state)
-            × (round_from self.old.state from (passage_at self.old.state from) ≡ passage_at self.old.state from) }
-        ensures apart { result ≡ Ok true → self.new.state ≢ self.old.state }
+            (λ changed. PassedBoth self.old.state link changed self.new.state)
+            (λ _. PartlyPassedBoth self.old.state link self.new.state) }
+        ensures still { result ≡ Ok false → BothStandStill self.old.state link }
     {
-        self.ctl.sides.pass(from, self.ctl.settings.hold)
+        self.ctl.sides.pass_link(link, self.ctl.settings.hold)
     }
 }

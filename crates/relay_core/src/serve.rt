@@ -1,8 +1,8 @@
 // What the answers to reads, writes and connect checks change.
-ghost use Rattle.std.specs.Prelude.{◌≡◌, ◌<◌, ◌≤◌, OnOk, length};
+ghost use Rattle.std.specs.Prelude.{◌≡◌, ◌<◌, ◌≤◌, OnOk, IsOk, take, vec_len};
 ghost use Rattle.relay_state.specs.Rooms.{read_room, write_room};
 ghost use Rattle.relay_state.specs.Serving.{after_read, after_write, after_conn};
-ghost use Rattle.relay_core.specs.Answered.{HasBytes, TakesAtMost};
+ghost use Rattle.relay_core.specs.Answered.{BringsWithin, arrived_count, TakesAtMost};
 ghost use Rattle.relay_core.specs.RelayValue.{spare_read};
 
 use crate::relay::Relay;
@@ -20,30 +20,34 @@ const WRITE_ERROR: Flags = Flags(0x22);
 
 impl Relay {
     /// Makes room for a read of so many bytes from the side's end. It is also refused where they could not be counted.
-    /// Takes memory, for no more than can come; linear in the length where it does.
+    /// Takes memory, for no more than can come, and none where there is room for as many already; linear in the length where it does.
     pub fn reserve_read(&mut self, side: SideId, room: usize) -> Result<(), NoMemory>
         requires { side.link < self.old.state.plain.opened }
         ensures state { self.new.state ≡ self.old.state }
         ensures room { OnOk result (room ≤ spare_read self.new side) }
+        ensures there { 0 < room → room ≤ spare_read self.old side → IsOk result }
     {
         self.ctl.sides.reserve_read(side, room)
     }
 
-    /// A read of the side's end was answered, and brought these bytes, in room that was made before and no more than may be read now.
-    /// Linear in their number, and in the members of groups where its group is suspended by it; takes memory for the bytes alone.
+    /// A read of the side's end was answered. What it brought stands in front of a block: bytes for which room was made before, and no
+    /// more than may be read now. Linear in their number, and in the members of groups where its group is suspended by it; takes memory
+    /// for the bytes alone. Where the side has no byte that waits for its read filter, and room for just what the block is long, they
+    /// exchange their blocks and no byte is copied; the block stays as long.
     ///
     /// Own; libevent makes this change in the `readcb` of a socket bufferevent.
-    pub fn read_answered(&mut self, side: SideId, answer: ReadAnswer, bytes: &[u8])
+    pub fn read_answered(&mut self, side: SideId, answer: ReadAnswer, block: &mut Vec<u8>)
         requires opened { side.link < self.old.state.plain.opened }
-        requires some { HasBytes answer bytes.now }
-        requires room { length bytes.now ≤ spare_read self.old side }
-        requires within { length bytes.now ≤ read_room self.old.state side }
-        ensures { self.new.state ≡ after_read self.old.state side answer bytes.now }
+        requires some { BringsWithin (vec_len block.old) answer }
+        requires room { arrived_count answer ≤ spare_read self.old side }
+        requires within { arrived_count answer ≤ read_room self.old.state side }
+        ensures state { self.new.state ≡ after_read self.old.state side answer (take (arrived_count answer) block.old.items) }
+        ensures block { vec_len block.new ≡ vec_len block.old }
     {
         match answer {
-            ReadAnswer::Got(_) => {
-                self.ctl.spend(side, Dir::Read, bytes.len());
-                self.ctl.sides.got(side, bytes, self.ctl.time);
+            ReadAnswer::Got(count) => {
+                self.ctl.spend(side, Dir::Read, count);
+                self.ctl.sides.got(side, block, count, self.ctl.time);
                 self.ctl.raise_read(side);
             }
             ReadAnswer::Ended => {

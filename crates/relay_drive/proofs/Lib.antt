@@ -40,3 +40,4 @@ pub mod ListedLemmas
 pub mod BegunLemmas
 pub mod WantLemmas
 pub mod ClockLemmas
+pub mod LinkPassLemmas

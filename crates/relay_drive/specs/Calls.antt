@@ -36,6 +36,10 @@ pub record Reads (e : SideId) (answer : ReadAnswer) (into : List ℕ) (s : State
   pub entries : a ≡ read_events e into answer
   pub state : new ≡ after_read s e answer (got_bytes answer into)
 
+-- and into one of this length
+abbrev pub ReadsSome : SideId → ReadAnswer → ℕ → State → Trace → State → Type 0
+ReadsSome e answer room s a new = (into : List ℕ) × (length into ≡ room) × Reads e answer into s a new
+
 abbrev pub is_memory : WriteAnswer → Bool
 is_memory write.NoMemory = true
 is_memory _ = false

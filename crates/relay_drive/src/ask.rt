@@ -1,9 +1,9 @@
 // One call of the port for one side, with room made before for all that it may bring.
-ghost use Rattle.std.specs.Prelude.{◌≡◌, ◌<◌, ◌≤◌, false, length};
+ghost use Rattle.std.specs.Prelude.{◌≡◌, ◌<◌, ◌≤◌, false, length, vec_len};
 ghost use Rattle.relay_state.specs.Rooms.{read_room, offer};
 ghost use Rattle.relay_drive.specs.declared.fault.DriveFault.TheVariants.{Memory};
 ghost use Rattle.relay_drive.specs.Steps.{Nothing};
-ghost use Rattle.relay_drive.specs.Calls.{Checks, Reads, Writes, is_memory};
+ghost use Rattle.relay_drive.specs.Calls.{Checks, ReadsSome, Writes, is_memory};
 ghost use Rattle.ev_port.specs.Ends.{ReadWithin, got_bytes, WriteWithin, took_bytes};
 ghost use Rattle.relay_drive.specs.Moves.{Does, OnlyForMemory};
 
@@ -12,32 +12,36 @@ use crate::run::{Run, put};
 use ev_port::{Port, Scribe};
 use ev_types::{ConnAnswer, Entry, ReadAnswer, SideId, WriteAnswer};
 
-/// Reads from the side's end as many bytes as there are in `into`, which is no more than may be read.
+/// Reads so many bytes from the side's end, which is no more than may be read. They come into the front of a block, for which the relay
+/// may give another that is as long.
 pub(crate) fn ask_read<P: Port, S: Scribe>(
     run: &mut Run,
     side: SideId,
-    into: &mut [u8],
+    inbox: &mut Vec<u8>,
+    room: usize,
     port: &mut P,
     scribe: &mut S,
 ) -> Result<ReadAnswer, DriveFault>
     requires opened { side.link < run.old.relay.state.plain.opened }
-    requires some { 0 < length into.old }
-    requires within { length into.old ≤ read_room run.old.relay.state side }
-    ensures went { Does P.Port S.Scribe result (λ answer. Reads side answer into.new) Nothing
+    requires some { 0 < room }
+    requires inbox { room ≤ vec_len inbox.old }
+    requires within { room ≤ read_room run.old.relay.state side }
+    ensures went { Does P.Port S.Scribe result (λ answer. ReadsSome side answer room) Nothing
         (run.old, port.old, scribe.old) (run.new, port.new, scribe.new) }
     ensures cause { OnlyForMemory result }
+    ensures inbox { vec_len inbox.new ≡ vec_len inbox.old }
 {
-    run.relay.reserve_read(side, into.len())?;
-    scribe.reserve(1, into.len())?;
+    run.relay.reserve_read(side, room)?;
+    scribe.reserve(1, room)?;
+    let (into, _) = inbox.as_mut_slice().split_at_mut(room);
     let answer = port.read(side, into);
     let entry = Entry::Read {
         side,
-        room: into.len() as u64,
+        room: room as u64,
         answer,
     };
-    let bytes = bytes_got(answer, into);
-    put(&mut run.entries, scribe, entry, bytes);
-    run.relay.read_answered(side, answer, bytes);
+    put(&mut run.entries, scribe, entry, bytes_got(answer, into));
+    run.relay.read_answered(side, answer, inbox);
     Ok(answer)
 }
 

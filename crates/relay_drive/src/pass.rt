@@ -1,35 +1,12 @@
 // Passing both directions of each link at which passing may have something to do.
 ghost use Rattle.std.specs.Prelude.{◌≡◌, ◌<◌, false, [], MatchResult, OnOk, Ok};
 ghost use Rattle.relay_drive.specs.Agenda.{IsKept, KeepsNames};
-ghost use Rattle.relay_drive.specs.Links.{IsStill};
 ghost use Rattle.relay_drive.specs.Moves.{OnlyForMemory};
 ghost use Rattle.relay_drive.specs.Phases.{PassesLink, CutPassingLink, ForAllLinks, CutForAllLinks};
 
 use crate::agenda::{Agenda, next_link};
 use crate::fault::DriveFault;
-use ev_types::{Side, SideId};
 use relay_core::Relay;
-
-/// Passes the directions of a link, that from In first. It answers whether anything changed.
-fn pass_link(relay: &mut Relay, link: u32) -> Result<bool, DriveFault>
-    requires { link < relay.old.state.plain.opened }
-    ensures went { MatchResult result
-        (λ _. PassesLink link relay.old.state [] relay.new.state)
-        (λ _. CutPassingLink link relay.old.state [] relay.new.state) }
-    ensures still { result ≡ Ok false → (relay.new.state ≡ relay.old.state) × IsStill relay.old.state link }
-    ensures kept { relay.new.state.plain.opened ≡ relay.old.state.plain.opened }
-    ensures time { relay.new.state.plain.time ≡ relay.old.state.plain.time }
-    ensures settings { relay.new.state.settings ≡ relay.old.state.settings }
-    ensures cause { OnlyForMemory result }
-{
-    let near = SideId {
-        link,
-        side: Side::In,
-    };
-    let first = relay.pass(near)?;
-    let second = relay.pass(near.peer())?;
-    Ok(first || second)
-}
 
 /// Passes the directions of a link. Where nothing changed, nothing will before something else does.
 fn pass_next(relay: &mut Relay, agenda: &mut Agenda, link: u32) -> Result<(), DriveFault>
@@ -45,7 +22,7 @@ fn pass_next(relay: &mut Relay, agenda: &mut Agenda, link: u32) -> Result<(), Dr
     ensures kept { OnOk result (IsKept agenda.new relay.new.state) }
     ensures names { OnOk result (KeepsNames agenda.old relay.old.state agenda.new relay.new.state) }
 {
-    if pass_link(relay, link)? {
+    if relay.pass_link(link)? {
         agenda.touch(link);
     } else {
         agenda.to_pass.remove(link as usize);

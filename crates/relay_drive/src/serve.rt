@@ -1,5 +1,5 @@
 // Serving the marked sides, in their order.
-ghost use Rattle.std.specs.Prelude.{◌≡◌, ◌<◌, length, OnOk};
+ghost use Rattle.std.specs.Prelude.{◌≡◌, ◌<◌, vec_len, OnOk};
 ghost use Rattle.relay_drive.specs.Steps.{Nothing, Each, CutAt};
 ghost use Rattle.relay_drive.specs.Phases.{ReadsSide, WritesSide, ConnectsSide, ServesSide, CutServing, AllOpened};
 ghost use Rattle.relay_model.specs.Rooms.{is_connecting};
@@ -18,16 +18,17 @@ use relay_core::Relay;
 fn read_side<P: Port, S: Scribe>(
     run: &mut Run,
     want: Want,
-    inbox: &mut [u8],
+    inbox: &mut Vec<u8>,
     port: &mut P,
     scribe: &mut S,
 ) -> Result<(), DriveFault>
     requires opened { want.side.link < run.old.relay.state.plain.opened }
-    requires inbox { length inbox.old ≡ 16384 }
+    requires inbox { vec_len inbox.old ≡ 16384 }
     ensures went { Does P.Port S.Scribe result (λ _. ReadsSide want.side want.can_read) Nothing
         (run.old, port.old, scribe.old) (run.new, port.new, scribe.new) }
     ensures kept { run.new.relay.state.plain.opened ≡ run.old.relay.state.plain.opened }
     ensures cause { OnlyForMemory result }
+    ensures inbox { vec_len inbox.new ≡ 16384 }
 {
     if !want.can_read {
         return Ok(());
@@ -36,8 +37,7 @@ fn read_side<P: Port, S: Scribe>(
     if room == 0 {
         return Ok(());
     }
-    let (into, _) = inbox.split_at_mut(room);
-    ask_read(run, want.side, into, port, scribe)?;
+    ask_read(run, want.side, inbox, room, port, scribe)?;
     Ok(())
 }
 
@@ -97,16 +97,17 @@ fn is_connecting(relay: &Relay, side: SideId) -> bool
 fn serve_side<P: Port, S: Scribe>(
     run: &mut Run,
     want: Want,
-    inbox: &mut [u8],
+    inbox: &mut Vec<u8>,
     port: &mut P,
     scribe: &mut S,
 ) -> Result<(), DriveFault>
     requires opened { want.side.link < run.old.relay.state.plain.opened }
-    requires inbox { length inbox.old ≡ 16384 }
+    requires inbox { vec_len inbox.old ≡ 16384 }
     ensures went { Does P.Port S.Scribe result (λ _. ServesSide want) (CutServing want)
         (run.old, port.old, scribe.old) (run.new, port.new, scribe.new) }
     ensures kept { run.new.relay.state.plain.opened ≡ run.old.relay.state.plain.opened }
     ensures cause { OnlyForMemory result }
+    ensures inbox { vec_len inbox.new ≡ 16384 }
 {
     if is_connecting(&run.relay, want.side) {
         return connect_side(run, want, port, scribe);
@@ -120,12 +121,12 @@ fn serve_next<P: Port, S: Scribe>(
     run: &mut Run,
     agenda: &mut Agenda,
     want: Want,
-    inbox: &mut [u8],
+    inbox: &mut Vec<u8>,
     port: &mut P,
     scribe: &mut S,
 ) -> Result<(), DriveFault>
     requires opened { want.side.link < run.old.relay.state.plain.opened }
-    requires inbox { length inbox.old ≡ 16384 }
+    requires inbox { vec_len inbox.old ≡ 16384 }
     requires kept { IsKept agenda.old run.old.relay.state }
     ensures went { Does P.Port S.Scribe result (λ _. ServesSide want) (CutServing want)
         (run.old, port.old, scribe.old) (run.new, port.new, scribe.new) }
@@ -133,6 +134,7 @@ fn serve_next<P: Port, S: Scribe>(
     ensures cause { OnlyForMemory result }
     ensures kept { OnOk result (IsKept agenda.new run.new.relay.state) }
     ensures names { OnOk result (KeepsNames agenda.old run.old.relay.state agenda.new run.new.relay.state) }
+    ensures inbox { vec_len inbox.new ≡ 16384 }
 {
     serve_side(run, want, inbox, port, scribe)?;
     agenda.touch(want.side.link);
@@ -144,12 +146,12 @@ pub(crate) fn serve<P: Port, S: Scribe>(
     run: &mut Run,
     agenda: &mut Agenda,
     wants: &[Want],
-    inbox: &mut [u8],
+    inbox: &mut Vec<u8>,
     port: &mut P,
     scribe: &mut S,
 ) -> Result<(), DriveFault>
     requires opened { AllOpened wants.now run.old.relay.state.plain.opened }
-    requires inbox { length inbox.old ≡ 16384 }
+    requires inbox { vec_len inbox.old ≡ 16384 }
     requires kept { IsKept agenda.old run.old.relay.state }
     ensures went { Does P.Port S.Scribe result (λ _. Each ServesSide wants.now) (CutAt ServesSide CutServing wants.now)
         (run.old, port.old, scribe.old) (run.new, port.new, scribe.new) }
@@ -157,6 +159,7 @@ pub(crate) fn serve<P: Port, S: Scribe>(
     ensures cause { OnlyForMemory result }
     ensures kept { OnOk result (IsKept agenda.new run.new.relay.state) }
     ensures names { OnOk result (KeepsNames agenda.old run.old.relay.state agenda.new run.new.relay.state) }
+    ensures inbox { vec_len inbox.new ≡ 16384 }
 {
     for want in wants {
         serve_next(run, agenda, *want, inbox, port, scribe)?;

@@ -1,5 +1,5 @@
 // One turn: its phases in their order. What time brings is done as the relay begins the turn.
-ghost use Rattle.std.specs.Prelude.{◌≡◌, ℕ, ◌<◌, ◌^◌, ◌||◌, true, false, nat_le, length, Ok, Err, MatchResult, OnOk};
+ghost use Rattle.std.specs.Prelude.{◌≡◌, ℕ, ◌<◌, ◌^◌, ◌||◌, true, false, nat_le, vec_len, Ok, Err, MatchResult, OnOk};
 ghost use Rattle.relay_state.specs.Counting.{is_spent};
 ghost use Rattle.relay_drive.specs.declared.fault.DriveFault.TheVariants.{Spent};
 ghost use Rattle.relay_drive.specs.declared.fault.TurnEnd.TheVariants.{Went};
@@ -115,11 +115,11 @@ fn start<P: Port, S: Scribe>(
     run: &mut Run,
     agenda: &mut Agenda,
     naming: &mut Naming,
-    inbox: &mut [u8],
+    inbox: &mut Vec<u8>,
     port: &mut P,
     scribe: &mut S,
 ) -> Result<(), DriveFault>
-    requires inbox { length inbox.old ≡ 16384 }
+    requires inbox { vec_len inbox.old ≡ 16384 }
     requires turns { run.old.relay.state.plain.turn < 2 ^ 62 }
     requires kept { IsKept agenda.old run.old.relay.state }
     requires stands { (t : Trace) × StandsBetween t run.old.relay.state }
@@ -129,7 +129,7 @@ fn start<P: Port, S: Scribe>(
         (run.old, port.old, scribe.old) (run.new, port.new, scribe.new) }
     ensures kept { OnOk result (IsKept agenda.new run.new.relay.state) }
     ensures named { OnOk result (IsNamed agenda.new naming.new run.new.relay.state) }
-    ensures inbox { length inbox.new ≡ 16384 }
+    ensures inbox { vec_len inbox.new ≡ 16384 }
 {
     clock(run, agenda, naming, port, scribe)?;
     poll(run, agenda, naming, port, scribe)?;
@@ -142,17 +142,17 @@ fn turn<P: Port, S: Scribe>(
     run: &mut Run,
     agenda: &mut Agenda,
     naming: &mut Naming,
-    inbox: &mut [u8],
+    inbox: &mut Vec<u8>,
     seats: &mut Seats,
     port: &mut P,
     scribe: &mut S,
 ) -> Result<TurnEnd, DriveFault>
-    requires inbox { length inbox.old ≡ 16384 }
+    requires inbox { vec_len inbox.old ≡ 16384 }
     requires turns { run.old.relay.state.plain.turn < 2 ^ 62 }
     requires ready { IsReady agenda.old naming.old run.old.relay.state }
     requires few { CountsAreFew run.old.relay.state }
     requires seated { AreSeated run.old.relay.state seats.old.hooks.items seats.old.gone.items }
-    ensures inbox { length inbox.new ≡ 16384 }
+    ensures inbox { vec_len inbox.new ≡ 16384 }
     ensures went { EndsTold P.Port S.Scribe (telling (λ h. heard h) (λ h. asked h) (λ h. planned h)) result
         (run.old, port.old, scribe.old) (run.new, port.new, scribe.new)
         seats.old.hooks.items seats.old.gone.items seats.new.hooks.items seats.new.gone.items }
@@ -193,12 +193,12 @@ pub(crate) fn next_turn<P: Port, S: Scribe>(
     run: &mut Run,
     agenda: &mut Agenda,
     naming: &mut Naming,
-    inbox: &mut [u8],
+    inbox: &mut Vec<u8>,
     seats: &mut Seats,
     port: &mut P,
     scribe: &mut S,
 ) -> Result<TurnEnd, DriveFault>
-    requires inbox { length inbox.old ≡ 16384 }
+    requires inbox { vec_len inbox.old ≡ 16384 }
     requires ready { IsReady agenda.old naming.old run.old.relay.state }
     requires seated { AreSeated run.old.relay.state seats.old.hooks.items seats.old.gone.items }
     ensures spent { nat_le (2 ^ 62) run.old.entries || is_spent run.old.relay.state ≡ true →
@@ -210,7 +210,7 @@ pub(crate) fn next_turn<P: Port, S: Scribe>(
         seats.old.hooks.items seats.old.gone.items seats.new.hooks.items seats.new.gone.items }
     ensures ready { result ≡ Ok Went → IsReady agenda.new naming.new run.new.relay.state }
     ensures seated { result ≡ Ok Went → AreSeated run.new.relay.state seats.new.hooks.items seats.new.gone.items }
-    ensures inbox { length inbox.new ≡ 16384 }
+    ensures inbox { vec_len inbox.new ≡ 16384 }
 {
     if run.entries >= SPENT || is_spent(&run.relay, agenda) {
         return Err(DriveFault::Spent);

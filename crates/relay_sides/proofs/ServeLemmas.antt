@@ -150,6 +150,10 @@ bevs_brought bytes time spare b = record b { lower = slot_fed bytes time spare b
 abbrev pub state_brought : List ℕ → SideState → SideState
 state_brought bytes s = record s { read = s.read + length bytes }
 
+pub brought_of : (bytes : List ℕ) (n : ℕ) (s z : SideState) → n ≡ length bytes → z ≡ s →
+    record z { read = z.read + n } ≡ state_brought bytes s
+brought_of bytes n s z is same = ap (λ (y : SideState). record y { read = y.read + n }) same ∙ ap (λ k. record s { read = s.read + k }) is
+
 module _ (v : SidesValue) (r : Inside) (is : sides_of r ≡ v) (e : SideId) (opened : e.link < v.links.opened) (sound : AreSides r)
     (bytes : List ℕ) (time spare : ℕ) (S' : List Slot) (K' : List SideState)
     (p : Changed (number e) (bevs_brought bytes time spare) r.world.slots S')

@@ -2,6 +2,7 @@ pub mod Table
 pub mod Bevs
 pub mod SideView
 pub mod Links
+pub mod LinkPasses
 pub mod Progress
 pub mod Opening
 pub mod KeptLimits

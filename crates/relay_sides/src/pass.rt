@@ -1,12 +1,14 @@
 // Passing a direction: rounds until one changes nothing. A round has its room before it begins, so that want of memory
-// leaves whole rounds. Where a pass moves nothing each buffer without a byte gives its room up, so that an idle link holds none.
+// leaves whole rounds. Where nothing of a link is passed each buffer without a byte gives its room up, so that an idle link holds none.
 ghost use Rattle.std.specs.Prelude.{◌≡◌, ◌≢◌, ◌≤◌, ◌<◌, ◌+◌, ◌==◌, ◌&&◌, ◌||◌, length, OnOk, IfOk, IsOk, MatchResult, IsTrue, ◌↔◌, is_some};
 ghost use Rattle.std.specs.Prelude.{true, false, ◌/◌, nat_le, if◌then◌else◌};
 ghost use Rattle.filter_model.specs.Filter.{or_else};
 ghost use Rattle.ev_types.specs.Sides.{peer};
 ghost use Rattle.relay_state.specs.Passage.{hold_part, read_part, move_part, write_part, write_step, written_by, has_moved_all, Passed};
 ghost use Rattle.relay_state.specs.Passage.{SomeRounds};
+ghost use Rattle.relay_state.specs.Closing.{in_side, out_side};
 ghost use Rattle.relay_sides.specs.Links.{lane_at, flow_at, moved, passage_at, with_passage, IsTold, round_from, PassedFrom, PartlyPassed};
+ghost use Rattle.relay_sides.specs.LinkPasses.{PassedLink, PartlyPassedLink, NoRoundChanges, NoRoundOfLinkChanges};
 ghost use Rattle.relay_sides.specs.Pairs.{HasPairs};
 ghost use Rattle.relay_sides.specs.Rooms.{HasInputRoom, HasOutputRoom, HasNoIdleRoom, most_input, most_offered, KeepsStartRoom};
 ghost use Rattle.relay_sides.specs.Rooms.{KeepsEndRoom};
@@ -15,7 +17,7 @@ ghost use Rattle.relay_sides.specs.Progress.{progress_of, round_by, is_all_passe
 use crate::side::{lower, upper};
 use crate::sides::Sides;
 use bev_core::Dir;
-use ev_types::{NoMemory, SideId};
+use ev_types::{NoMemory, Side, SideId};
 use stream_filters::{AnyFilter, StreamFilter};
 
 /// How far a filter came.
@@ -172,7 +174,8 @@ impl Sides {
         requires { from.link < self.old.links.opened }
         ensures links { self.new.links ≡ self.old.links }
         ensures input { OnOk result (HasInputRoom round.mark self.new.links self.new.rooms from) }
-        ensures raw_output { OnOk result (HasOutputRoom round.hold (most_offered round.mark self.new.links from) self.new.links self.new.rooms from) }
+        ensures raw_output { OnOk result
+            (HasOutputRoom round.hold (most_offered round.mark self.new.links from) self.new.links self.new.rooms from) }
     {
         let most = self.reserve_input(from, round.mark)?;
         let offered = self.offered(from, round.mark, most);
@@ -370,7 +373,7 @@ impl Sides {
             (λ _. SomeRounds (round_by round) (passage_at self.old.links from) (passage_at self.new.links from)) }
         ensures still { result ≡ Ok false → passage_at self.new.links from ≡ passage_at self.old.links from }
         ensures apart { result ≡ Ok true → progress_of (passage_at self.new.links from) ≢ progress_of (passage_at self.old.links from) }
-        ensures there { is_settled round (passage_at self.old.links from) ≡ true → IsOk result }
+        ensures settled { is_settled round (passage_at self.old.links from) ≡ true → result ≡ Ok false }
     {
         let mut changed = false;
         loop {
@@ -443,29 +446,51 @@ impl Sides {
     /// Passes the direction that begins at the side: rounds until one changes nothing, with this hold mark where the side that it ends
     /// at has none. It answers whether anything changed; where nothing did, a round changes nothing either until another call does.
     /// Takes memory for what a round may make, and none where there is nothing that one could do; want of it comes between two rounds.
-    /// Linear in the bytes that wait in the direction; constant where none does. Where nothing changed, no buffer of the link that has
-    /// no byte holds memory, in either direction.
-    ///
-    /// Own.
-    pub fn pass(&mut self, from: SideId, hold: u64) -> Result<bool, NoMemory>
+    fn pass(&mut self, from: SideId, hold: u64) -> Result<bool, NoMemory>
         requires { from.link < self.old.links.opened }
         ensures passed { MatchResult result
             (λ _. PassedFrom hold self.old.links from self.new.links)
             (λ _. PartlyPassed hold self.old.links from self.new.links) }
-        ensures still { result ≡ Ok false → (self.new.links ≡ self.old.links)
-            × (round_from hold self.old.links from (passage_at self.old.links from) ≡ passage_at self.old.links from) }
+        ensures still { result ≡ Ok false → (self.new.links ≡ self.old.links) × NoRoundChanges hold self.old.links from }
         ensures apart { result ≡ Ok true → self.new.links ≢ self.old.links }
-        ensures rooms { result ≡ Ok false → HasNoIdleRoom self.new.links self.new.rooms from }
-        ensures back { result ≡ Ok false → HasNoIdleRoom self.new.links self.new.rooms (peer from) }
-        ensures there { is_settled_from hold self.old.links from ≡ true → IsOk result }
+        ensures settled { is_settled_from hold self.old.links from ≡ true → result ≡ Ok false }
     {
         let round = self.round_rules(from, hold);
         let changed = self.make_rounds(from, round)?;
         if changed {
             self.hand_room_back(from);
-        } else {
-            self.give_up_rooms(from);
         }
         Ok(changed)
+    }
+
+    /// Passes both directions of a link, that from In first: in each, rounds until one changes nothing, with this hold mark where the side
+    /// that it ends at has none. It answers whether anything changed; where nothing did, a round changes nothing either until another call
+    /// does, and no buffer of the link that has no byte holds memory. Takes memory for what a round may make, and none where there is
+    /// nothing that one could do; want of it comes between two rounds. Linear in the bytes that wait in the link; constant where none
+    /// does.
+    ///
+    /// Own.
+    pub fn pass_link(&mut self, link: u32, hold: u64) -> Result<bool, NoMemory>
+        requires { link < self.old.links.opened }
+        ensures passed { MatchResult result
+            (λ changed. PassedLink hold self.old.links link changed self.new.links)
+            (λ _. PartlyPassedLink hold self.old.links link self.new.links) }
+        ensures still { result ≡ Ok false → NoRoundOfLinkChanges hold self.old.links link }
+        ensures rooms { result ≡ Ok false → HasNoIdleRoom self.new.links self.new.rooms (in_side link) }
+        ensures back { result ≡ Ok false → HasNoIdleRoom self.new.links self.new.rooms (out_side link) }
+        ensures settled { is_settled_from hold self.old.links (in_side link) ≡ true →
+            is_settled_from hold self.old.links (out_side link) ≡ true → result ≡ Ok false }
+    {
+        let near = SideId {
+            link,
+            side: Side::In,
+        };
+        let first = self.pass(near, hold)?;
+        let second = self.pass(near.peer(), hold)?;
+        if is_either(first, second) {
+            return Ok(true);
+        }
+        self.give_up_rooms(near);
+        Ok(false)
     }
 }

@@ -1,5 +1,5 @@
 // What the results of reads, writes and connect checks change.
-ghost use Rattle.std.specs.Prelude.{◌≡◌, ◌+◌, ◌-◌, ◌^◌, ◌<◌, ◌≤◌, true, false, OnOk, IsOk, length, min};
+ghost use Rattle.std.specs.Prelude.{◌≡◌, ◌+◌, ◌-◌, ◌^◌, ◌<◌, ◌≤◌, true, false, OnOk, IsOk, length, take, min, vec_len};
 ghost use Rattle.token_bucket.specs.declared.limit.Dir.TheVariants.{Read, Write};
 ghost use Rattle.ev_types.specs.Sides.{peer};
 ghost use Rattle.relay_sides.specs.Links.{lane_at, change_side, with_got, after_got, after_took, read_mark};
@@ -48,33 +48,38 @@ impl Sides {
         Ok(())
     }
 
-    /// They stand behind the raw input, in room of just their length where that can be had.
-    fn bring(&mut self, side: SideId, bytes: &[u8], time: u64)
+    /// They stand behind the raw input, in room of just their length where that can be had, or in their block.
+    fn bring(&mut self, side: SideId, block: &mut Vec<u8>, n: usize, time: u64)
         requires opened { side.link < self.old.links.opened }
-        requires some { 0 < length bytes.now }
-        requires room { length bytes.now ≤ spare_read self.old side }
-        ensures links { self.new.links ≡ with_got time side bytes.now self.old.links }
+        requires some { 0 < n }
+        requires within { n ≤ vec_len block.old }
+        requires room { n ≤ spare_read self.old side }
+        ensures links { self.new.links ≡ with_got time side (take n block.old.items) self.old.links }
         ensures room { HasInputRoom (read_mark self.old.links side) self.new.links self.new.rooms side }
+        ensures block { vec_len block.new ≡ vec_len block.old }
     {
         self.readable = 0;
         self.world
-            .feed_at(lower(side), bytes, time, &mut self.spare);
+            .feed_at(lower(side), block, n, time, &mut self.spare);
         let own = &mut self.sides[side.number()];
-        own.read += bytes.len() as u64;
+        own.read += n as u64;
     }
 
-    /// Bytes were read from the side's end at a time, after room for them was made; then its read filter runs. Takes memory for them
-    /// where the raw input has less room, and is never refused; linear in the bytes.
+    /// The first n bytes of a block were read from the side's end at a time, after room for them was made; then its read filter runs.
+    /// Takes memory for them where the raw input has less room, and is never refused; linear in n. Where the raw input has no byte, and
+    /// room for just what the block is long, they exchange their blocks and no byte is copied; the block stays as long.
     ///
     /// Libevent: event2/bufferevent.h, `bufferevent_data_cb`; "Bufferevents: concepts and basics".
-    pub fn got(&mut self, side: SideId, bytes: &[u8], time: u64)
+    pub fn got(&mut self, side: SideId, block: &mut Vec<u8>, n: usize, time: u64)
         requires opened { side.link < self.old.links.opened }
-        requires some { 0 < length bytes.now }
-        requires room { length bytes.now ≤ spare_read self.old side }
-        ensures { self.new.links ≡ after_got time side bytes.now self.old.links }
+        requires some { 0 < n }
+        requires within { n ≤ vec_len block.old }
+        requires room { n ≤ spare_read self.old side }
+        ensures links { self.new.links ≡ after_got time side (take n block.old.items) self.old.links }
+        ensures block { vec_len block.new ≡ vec_len block.old }
     {
         let mark = self.read_mark(side);
-        self.bring(side, bytes, time);
+        self.bring(side, block, n, time);
         self.run_read_filter(side, mark, false);
     }
 

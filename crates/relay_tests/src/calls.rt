@@ -2,6 +2,7 @@
 
 use ev_types::{Cause, NoMemory, ReadAnswer, Side, SideId, WriteAnswer};
 use relay_core::Relay;
+use std::alloc::Global;
 
 pub(crate) const IN: SideId = SideId {
     link: 0,
@@ -24,12 +25,18 @@ pub(crate) fn open(relay: &mut Relay) -> Result<bool, NoMemory> {
 }
 
 /// Some bytes are read from an end, as many as may be read now, or its end where there are none.
-pub(crate) fn get(relay: &mut Relay, side: SideId, bytes: &[u8]) -> Result<(), NoMemory> {
+pub(crate) fn get(
+    alloc: Global,
+    relay: &mut Relay,
+    side: SideId,
+    bytes: &[u8],
+) -> Result<(), NoMemory> {
     if side.link >= relay.opened() {
         return Ok(());
     }
+    let mut block = Vec::new(alloc);
     if bytes.is_empty() {
-        relay.read_answered(side, ReadAnswer::Ended, &[]);
+        relay.read_answered(side, ReadAnswer::Ended, &mut block);
         return Ok(());
     }
     let (bytes, _) = bytes.split_at(bytes.len().min(relay.read_room(side)));
@@ -37,23 +44,29 @@ pub(crate) fn get(relay: &mut Relay, side: SideId, bytes: &[u8]) -> Result<(), N
         return Ok(());
     }
     relay.reserve_read(side, bytes.len())?;
-    relay.read_answered(side, ReadAnswer::Got(bytes.len()), bytes);
+    block.extend_from_slice(bytes)?;
+    relay.read_answered(side, ReadAnswer::Got(bytes.len()), &mut block);
     Ok(())
 }
 
-/// Some bytes are read from an end, as many as may be read now, or its end where there are none, and the direction is passed.
-pub(crate) fn read(relay: &mut Relay, side: SideId, bytes: &[u8]) -> Result<(), NoMemory> {
-    get(relay, side, bytes)?;
+/// Some bytes are read from an end, as many as may be read now, or its end where there are none, and the link is passed.
+pub(crate) fn read(
+    alloc: Global,
+    relay: &mut Relay,
+    side: SideId,
+    bytes: &[u8],
+) -> Result<(), NoMemory> {
+    get(alloc, relay, side, bytes)?;
     pass(relay, side)?;
     Ok(())
 }
 
-/// Passes a direction. It answers whether anything changed.
+/// Passes the link of a side. It answers whether anything changed.
 pub(crate) fn pass(relay: &mut Relay, side: SideId) -> Result<bool, NoMemory> {
     if side.link >= relay.opened() {
         return Ok(false);
     }
-    relay.pass(side)
+    relay.pass_link(side.link)
 }
 
 /// How many bytes are offered to an end, of which it takes at most so many.

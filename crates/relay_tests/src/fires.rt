@@ -231,7 +231,7 @@ fn live(relay: &Relay) -> (bool, bool, bool) {
 fn goes(alloc: Global, relay: &mut Relay, step: Step) -> bool {
     match step {
         Step::Begins(reading) => begins(relay, reading),
-        Step::Gets(side, bytes) => get(relay, side, bytes).is_ok(),
+        Step::Gets(side, bytes) => get(alloc, relay, side, bytes).is_ok(),
         Step::Passes(side) => pass(relay, side).is_ok(),
         Step::Gives(side, most) => give(relay, side, most) > 0,
         Step::Connects(side, answer) => connects(relay, side, answer),

@@ -50,17 +50,17 @@ enum View {
 }
 
 /// Whether a call answers as it says, or what is seen is as it says.
-fn answers(relay: &mut Relay, act: Act) -> bool {
+fn answers(alloc: Global, relay: &mut Relay, act: Act) -> bool {
     match act {
         Act::Begins(reading, time) => begin(relay, reading) == Some(time),
         Act::Turns(reading, wait) => turn(relay, reading) == wait,
         Act::Opens => open(relay) == Ok(true),
-        Act::Gets(side, bytes) => get(relay, side, bytes).is_ok(),
-        Act::Reads(side, bytes) => read(relay, side, bytes).is_ok(),
+        Act::Gets(side, bytes) => get(alloc, relay, side, bytes).is_ok(),
+        Act::Reads(side, bytes) => read(alloc, relay, side, bytes).is_ok(),
         Act::PassesOn(side) => pass(relay, side).is_ok(),
         Act::Passes(side, changed) => pass(relay, side) == Ok(changed),
         Act::Gives(side, most, offered) => give(relay, side, most) == offered,
-        Act::Fails(side, cause) => fail(relay, side) == cause,
+        Act::Fails(side, cause) => fail(alloc, relay, side) == cause,
         Act::Closes => close(relay),
         Act::Sees(view) => sees(relay, view),
     }
@@ -95,9 +95,9 @@ fn turn(relay: &mut Relay, reading: u64) -> Option<u64> {
     relay.poll_timeout()
 }
 
-fn fail(relay: &mut Relay, side: SideId) -> Option<Cause> {
+fn fail(alloc: Global, relay: &mut Relay, side: SideId) -> Option<Cause> {
     if side.link < relay.opened() {
-        relay.read_answered(side, ReadAnswer::Failed, &[]);
+        relay.read_answered(side, ReadAnswer::Failed, &mut Vec::new(alloc));
     }
     fault(relay, side)
 }
@@ -137,9 +137,9 @@ fn close_step(relay: &mut Relay, step: Closing) {
 }
 
 /// The place of the first act that does not answer as it says.
-fn first_wrong(relay: &mut Relay, acts: &[Act]) -> Option<usize> {
+fn first_wrong(alloc: Global, relay: &mut Relay, acts: &[Act]) -> Option<usize> {
     for (place, act) in acts.iter().enumerate() {
-        if !answers(relay, *act) {
+        if !answers(alloc, relay, *act) {
             return Some(place);
         }
     }
@@ -151,7 +151,7 @@ fn plays(alloc: Global, settings: Settings, acts: &[Act]) -> Option<usize> {
     let Ok(mut relay) = Relay::new(alloc, settings, RateGroups::none(alloc), Vec::new(alloc)) else {
         return Some(0);
     };
-    first_wrong(&mut relay, acts)
+    first_wrong(alloc, &mut relay, acts)
 }
 
 const DONE: LinkCount = LinkCount {

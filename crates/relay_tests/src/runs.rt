@@ -101,17 +101,17 @@ fn goes(alloc: Global, run: &Run) -> bool {
     let Ok(mut relay) = Relay::new(alloc, settings, RateGroups::none(alloc), Vec::new(alloc)) else {
         return false;
     };
-    gives(&mut relay, run) && (fault(&relay, IN), fault(&relay, OUT)) == run.faults
+    gives(alloc, &mut relay, run) && (fault(&relay, IN), fault(&relay, OUT)) == run.faults
 }
 
 /// Opens a link and plays a run. Whether Out is given what it should be, and no more.
-fn gives(relay: &mut Relay, run: &Run) -> bool {
+fn gives(alloc: Global, relay: &mut Relay, run: &Run) -> bool {
     if open(relay) != Ok(true) {
         return false;
     }
     let mut rest = run.given;
     for piece in [run.first, run.second, b""] {
-        let Ok(Some(behind)) = gives_piece(relay, piece, rest) else {
+        let Ok(Some(behind)) = gives_piece(alloc, relay, piece, rest) else {
             return false;
         };
         rest = behind;
@@ -122,11 +122,12 @@ fn gives(relay: &mut Relay, run: &Run) -> bool {
 /// Some bytes are read at In, and Out is given what comes of them, a few times. What of these bytes stands behind those, where they
 /// begin so.
 fn gives_piece<'a>(
+    alloc: Global,
     relay: &mut Relay,
     piece: &[u8],
     bytes: &'a [u8],
 ) -> Result<Option<&'a [u8]>, NoMemory> {
-    read(relay, IN, piece)?;
+    read(alloc, relay, IN, piece)?;
     let mut rest = bytes;
     for _ in 0..4 {
         let Some(behind) = behind_offer(relay, rest) else {

@@ -34,7 +34,7 @@ enum Act {
     /// A link is opened whose bytes go through a filter at the end Out.
     Opens(FilterKind),
     Opened(u32),
-    /// Bytes are read from an end, and the direction is passed; whether that changed anything.
+    /// Bytes are read from an end, and the link is passed; whether that changed anything.
     Reads(SideId, &'static [u8], bool),
     /// The first bytes that wait for an end.
     Waiting(SideId, [u8; 4]),
@@ -43,11 +43,11 @@ enum Act {
 }
 
 /// Whether a call answers as it says, or what is seen is as it says.
-fn answers(sides: &mut Sides, spare: &mut SpareLimits, act: Act) -> bool {
+fn answers(alloc: Global, sides: &mut Sides, spare: &mut SpareLimits, act: Act) -> bool {
     match act {
         Act::Opens(write) => open(sides, spare, write).is_ok(),
         Act::Opened(count) => sides.opened() == count,
-        Act::Reads(from, bytes, changed) => read(sides, from, bytes) == Ok(changed),
+        Act::Reads(from, bytes, changed) => read(alloc, sides, from, bytes) == Ok(changed),
         Act::Waiting(to, bytes) => waiting(sides, to) == bytes,
         Act::Takes(to, count) => take(sides, to) == count,
     }
@@ -74,13 +74,15 @@ fn open(sides: &mut Sides, spare: &mut SpareLimits, write: FilterKind) -> Result
     Ok(())
 }
 
-fn read(sides: &mut Sides, from: SideId, bytes: &[u8]) -> Result<bool, NoMemory> {
+fn read(alloc: Global, sides: &mut Sides, from: SideId, bytes: &[u8]) -> Result<bool, NoMemory> {
     if from.link >= sides.opened() || bytes.is_empty() {
         return Ok(false);
     }
     sides.reserve_read(from, bytes.len())?;
-    sides.got(from, bytes, 7);
-    sides.pass(from, HOLD)
+    let mut block = Vec::new(alloc);
+    block.extend_from_slice(bytes)?;
+    sides.got(from, &mut block, bytes.len(), 7);
+    sides.pass_link(from.link, HOLD)
 }
 
 fn take(sides: &mut Sides, to: SideId) -> usize {
@@ -106,9 +108,14 @@ fn waiting(sides: &Sides, to: SideId) -> [u8; 4] {
 }
 
 /// The place of the first act that does not answer as it says.
-fn first_wrong(sides: &mut Sides, spare: &mut SpareLimits, acts: &[Act]) -> Option<usize> {
+fn first_wrong(
+    alloc: Global,
+    sides: &mut Sides,
+    spare: &mut SpareLimits,
+    acts: &[Act],
+) -> Option<usize> {
     for (place, act) in acts.iter().enumerate() {
-        if !answers(sides, spare, *act) {
+        if !answers(alloc, sides, spare, *act) {
             return Some(place);
         }
     }
@@ -119,7 +126,7 @@ fn first_wrong(sides: &mut Sides, spare: &mut SpareLimits, acts: &[Act]) -> Opti
 fn plays(alloc: Global, acts: &[Act]) -> Option<usize> {
     let mut sides = Sides::new(alloc);
     let mut spare = SpareLimits::new(alloc);
-    first_wrong(&mut sides, &mut spare, acts)
+    first_wrong(alloc, &mut sides, &mut spare, acts)
 }
 
 const TWO_LINKS: &[Act] = &[

@@ -1,5 +1,5 @@
 // Room that is made in a buffer before, and bytes that come into it.
-ghost use Rattle.std.specs.Prelude.{◌≡◌, ◌≤◌, ◌+◌, length, max, false, OnOk, OnErr, IsOk};
+ghost use Rattle.std.specs.Prelude.{◌≡◌, ◌≤◌, ◌+◌, length, max, take, false, vec_len, OnOk, OnErr, IsOk};
 ghost use Rattle.byte_queue.specs.MemoryAnswers.{AnswersOr, fault_of};
 ghost use Rattle.byte_queue.specs.QueuedBytes.{most_spare};
 ghost use Rattle.bev_core.specs.Refusals.{live_refusal};
@@ -65,19 +65,22 @@ impl Bev {
         }
     }
 
-    /// Copies bytes to the end of the input, whether it is live or not: in room that it makes, or where no memory is left for that in the
-    /// spare room, which becomes the input then. Takes memory where the input has less room, and is never refused; linear in the length
-    /// of the bytes, and in that of the input where room is made.
+    /// Puts the first n bytes of a block at the end of the input, whether it is live or not: in room that it makes, or where no memory is
+    /// left for that in the spare room, which becomes the input then. Where the input has no byte, and room for just what the block is
+    /// long, they exchange their blocks and no byte is copied; the block stays as long. Takes memory where the input has less room, and is
+    /// never refused; linear in n, and in the length of the input where room is made.
     ///
     /// Own.
-    pub fn feed_with_spare(&mut self, bytes: &[u8], spare: &mut SpareRoom)
+    pub fn feed_with_spare(&mut self, block: &mut Vec<u8>, n: usize, spare: &mut SpareRoom)
         requires one_piece { self.old.chunked ≡ false }
-        requires room { length self.old.input.bytes + length bytes.now ≤ spare.old }
-        ensures fed { self.new ≡ record self.old { input = more self.old.input bytes.now self.new.input.spare } }
+        requires within { n ≤ vec_len block.old }
+        requires room { length self.old.input.bytes + n ≤ spare.old }
+        ensures fed { self.new ≡ record self.old { input = more self.old.input (take n block.old.items) self.new.input.spare } }
         ensures most { self.new.input.spare ≤ max spare.old (most_spare self.old.input.spare 0 (length self.old.input.bytes)) }
-        ensures kept { length bytes.now ≤ self.old.input.spare → spare.new ≡ spare.old }
-        ensures used { length bytes.now ≤ self.old.input.spare → self.new.input.spare + length bytes.now ≡ self.old.input.spare }
+        ensures kept { n ≤ self.old.input.spare → spare.new ≡ spare.old }
+        ensures used { n ≤ self.old.input.spare → self.new.input.spare + n ≡ self.old.input.spare }
+        ensures block { vec_len block.new ≡ vec_len block.old }
     {
-        self.input.feed_or_swap(bytes, &mut spare.queue);
+        self.input.feed_or_swap(block, n, &mut spare.queue);
     }
 }

@@ -1,7 +1,7 @@
 // Calls for one who keeps track himself of what is live, and says by himself what is due. They ask for a known number, look at no
 // liveness, and make nothing due. Those that copy or move bytes have room that was made before, so that none is refused then.
-ghost use Rattle.std.specs.Prelude.{◌≡◌, ◌≢◌, ◌≤◌, ◌<◌, ◌+◌, ◌-◌, ◌^◌, [], true, false, Some, length, slice_index_or, slice_set, OnOk};
-ghost use Rattle.std.specs.Prelude.{OnErr, IfOk, IfSome, IsOk, vec_capacity};
+ghost use Rattle.std.specs.Prelude.{◌≡◌, ◌≢◌, ◌≤◌, ◌<◌, ◌+◌, ◌-◌, ◌^◌, [], true, false, Some, length, take, slice_index_or, slice_set, OnOk};
+ghost use Rattle.std.specs.Prelude.{OnErr, IfOk, IfSome, IsOk, vec_capacity, vec_len};
 ghost use Rattle.stream_filters.specs.StepAnswers.{most_by_step};
 ghost use Rattle.bev_core.specs.Steps.{held, with_enabled, with_marks, with_timeouts, touched, less, ended_at, failed_at};
 ghost use Rattle.bev_filter.specs.Passing.{Crossed, stepping};
@@ -187,20 +187,29 @@ impl World {
         self.slots[at].bev.drop_reference();
     }
 
-    /// Copies bytes that were read to the end of the input, in room that it makes or takes, as `feed_with_spare` of bev_core, and makes the
-    /// moment the last activity of reading. No `feed` is sure of room there any more. Asked that each buffer of the world lies in one
-    /// piece. Takes memory where the input has less room, and is never refused; linear in the length of the bytes, and in that of the
-    /// input where room is made.
+    /// Puts the first n bytes of a block, which were read, at the end of the input, in room that it makes or takes or by an exchange of
+    /// blocks, as `feed_with_spare` of bev_core, and makes the moment the last activity of reading. No `feed` is sure of room there any
+    /// more. The block stays as long. Asked that each buffer of the world lies in one piece. Takes memory where the input has less room,
+    /// and is never refused; linear in n, and in the length of the input where room is made.
     ///
     /// Own.
-    pub fn feed_at(&mut self, at: usize, bytes: &[u8], now: u64, spare: &mut SpareRoom)
+    pub fn feed_at(
+        &mut self,
+        at: usize,
+        block: &mut Vec<u8>,
+        n: usize,
+        now: u64,
+        spare: &mut SpareRoom,
+    )
         requires there { at < length self.old.slots }
         requires one_piece { self.old.chunked ≡ false }
-        requires room { length (bev_at self.old at).input.bytes + length bytes.now ≤ spare.old }
-        ensures { self.new ≡ fed_with_spare self.old at bytes.now now (bev_at self.new at).input.spare }
+        requires within { n ≤ vec_len block.old }
+        requires room { length (bev_at self.old at).input.bytes + n ≤ spare.old }
+        ensures fed { self.new ≡ fed_with_spare self.old at (take n block.old.items) now (bev_at self.new at).input.spare }
+        ensures block { vec_len block.new ≡ vec_len block.old }
     {
         let slot = &mut self.slots[at];
-        slot.bev.feed_with_spare(bytes, spare);
+        slot.bev.feed_with_spare(block, n, spare);
         slot.bev.moved_at(Dir::Read, now);
         slot.room = 0;
     }

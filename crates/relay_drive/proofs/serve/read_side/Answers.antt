@@ -1,4 +1,4 @@
-use Rattle.std.proofs.Common.{◌≡◌, ◌≢◌, ℕ, nat_le, arith, length, true, false, ◌&&◌, refl, sym, ◌∙◌, ap, subst}
+use Rattle.std.proofs.Common.{◌≡◌, ◌≢◌, ℕ, nat_le, arith, true, false, ◌&&◌, refl, sym, ◌∙◌, ap, subst}
 use Rattle.std.specs.Prelude.{MatchBool}
 use Rattle.std.proofs.lemmas.Bool.{not-true, not-false, le-leb}
 use Rattle.token_bucket.specs.declared.limit.Dir.TheVariants as dir
@@ -41,15 +41,13 @@ returns-clause-went g c =
     let yes : c.args.want.can_read && wants s e dir.Read ≡ true =
     ap (λ b. b && wants s e dir.Read) (not-false c.args.want.can_read c.if-not-want.false)
     ∙ some_room (read_room s e) (λ none. c.if-room-eq0.false (c.read_room-room.ensures ∙ none)) in
-    let most : length c.ask_read.new.into ≡ read_room s e = c.ask_read.auto.into ∙ c.split_at_mut-into.ensures.front_len
-    ∙ c.read_room-room.ensures in
     goes_as (λ a p. subst (λ b. MatchBool b (ReadsWithRoom e s a new) (Nothing s a new)) (sym yes)
-    (c.in_ok-ask_read.field-0, c.ask_read.new.into, most, p)) c.in_ok-ask_read.ensures.went
+    (c.in_ok-ask_read.field-0, p.0, p.1 ∙ c.read_room-room.ensures, p.2)) c.in_ok-ask_read.ensures.went
 
 pub returns-clause-kept : goal.returns-clause-kept
 returns-clause-kept g c =
     let s = c.args.run.now.relay.state in
     let e = c.args.want.side in
     let r = c.in_ok-ask_read.ensures.went.does in
-    ap (λ (z : State). z.plain.opened) r.state
-    ∙ (frame-read s e c.in_ok-ask_read.field-0 (got_bytes c.in_ok-ask_read.field-0 c.ask_read.new.into)).opened
+    ap (λ (z : State). z.plain.opened) r.2.state
+    ∙ (frame-read s e c.in_ok-ask_read.field-0 (got_bytes c.in_ok-ask_read.field-0 r.0)).opened

@@ -17,4 +17,5 @@ loop-want-preserved g c = record {
   kept = c.in_ok-serve_next.ensures.kept;
   names = λ t h. c.in_ok-serve_next.ensures.names t (c.loop-want.invariant.names t h);
   opened = c.in_ok-serve_next.ensures.opened ∙ c.loop-want.invariant.opened;
+  inbox = c.in_ok-serve_next.ensures.inbox;
 }

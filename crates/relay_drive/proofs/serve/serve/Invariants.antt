@@ -1,4 +1,5 @@
 use Rattle.std.proofs.Common.{◌≡◌, false, take}
+use Rattle.std.specs.Prelude.{vec_len}
 use Rattle.relay_drive.specs.Steps.{Each}
 use Rattle.relay_drive.specs.Phases.{ServesSide}
 use Rattle.relay_drive.specs.Known.{Point}
@@ -13,4 +14,5 @@ invariant-loop-want g l = record {
   kept : IsKept l.agenda l.run.relay.state;
   names : KeepsNames l.fn.agenda l.fn.run.relay.state l.agenda l.run.relay.state;
   opened : l.run.relay.state.plain.opened ≡ l.fn.run.relay.state.plain.opened;
+  inbox : vec_len l.inbox ≡ 16384;
 }

@@ -24,7 +24,7 @@ returns-in-Some-clause-answer g c =
 
 pub invariant_of-self : goal.invariant_of-self
 invariant_of-self g c = record {
-  inbox = c.self.invariant.inbox;
+  inbox = c.next_turn-answer.ensures.inbox;
   over = subst (λ k. IfSome k (λ a. kept_of a ≡ Some a)) (sym c.kept_of-self-inside.ensures) (kept-twice c.next_turn-answer.result);
   ready = λ none. c.next_turn-answer.ensures.ready (kept-none c.next_turn-answer.result (sym c.kept_of-self-inside.ensures ∙ none));
 }

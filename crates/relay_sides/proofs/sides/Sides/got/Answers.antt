@@ -1,4 +1,4 @@
-use Rattle.std.proofs.Common.{◌≡◌, ℕ, zero, suc, false, List, [], ◌∷◌, slice_index_or, slice_set, refl, sym, ◌∙◌, ap}
+use Rattle.std.proofs.Common.{◌≡◌, ℕ, zero, suc, false, List, [], ◌∷◌, take, slice_index_or, slice_set, refl, sym, ◌∙◌, ap}
 use Rattle.token_bucket.specs.declared.limit.Dir.TheVariants.{Read}
 use Rattle.ev_types.specs.Sides.{number}
 use Rattle.relay_model.specs.Plain.{PlainSide, no_side}
@@ -16,11 +16,11 @@ mark_stays time [] n = refl
 mark_stays time (x ∷ xs) zero = refl
 mark_stays time (x ∷ xs) (suc n) = mark_stays time xs n
 
-pub returns : goal.returns
-returns c =
+pub returns-clause-links : goal.returns-clause-links
+returns-clause-links c =
     let e = c.args.side in
     let k : Links = c.args.self.now.links in
-    let j : Links = with_got c.args.time e c.args.bytes.now k in
+    let j : Links = with_got c.args.time e (take c.args.n c.args.block.now.items) k in
     let mark = c.read_mark-mark.ensures
     ∙ ap (λ z. mark_or z most_at_once) (sym (mark_stays c.args.time k.sides (number e))) in
     c.run_read_filter.ensures.links

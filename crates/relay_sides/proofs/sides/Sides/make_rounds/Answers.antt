@@ -1,4 +1,4 @@
-use Rattle.std.proofs.Common.{◌≡◌, Bool, suc, ◌<◌, true, false, inl, inr, sym, ◌∙◌, ap, subst, refl}
+use Rattle.std.proofs.Common.{◌≡◌, Bool, suc, ◌<◌, true, false, inl, inr, Ok, sym, ◌∙◌, ap, subst, refl}
 use Rattle.ev_types.specs.declared.side.SideId.{SideId}
 use Rattle.relay_state.specs.Passage.{Passage}
 use Rattle.relay_sides.specs.Links.{Links, passage_at, with_passage}
@@ -32,6 +32,11 @@ unsettled_first : (t : RoundRules) (changed settled : Bool) (first now : Passage
 unsettled_first t true settled first now is unsettled still was = was refl
 unsettled_first t false settled first now is unsettled still was = ap (is_settled t) (sym (still refl)) ∙ sym is ∙ unsettled
 
+-- where it was settled at first, nothing changed
+first_unchanged : (changed settled : Bool) → (changed ≡ true → settled ≡ false) → settled ≡ true → changed ≡ false
+first_unchanged true settled unsettled is = absurd (let wrong : true ≡ false = sym is ∙ unsettled refl in cc)
+first_unchanged false settled unsettled is = refl
+
 -- where the direction is settled, nothing is made of it
 pub returns-then-is_settled-clause-passage : goal.returns-then-is_settled-clause-passage
 returns-then-is_settled-clause-passage c =
@@ -49,9 +54,22 @@ returns-then-is_settled-clause-apart c = λ h.
     went-apart c.args.round.hold (passage_at c.args.self.now.links c.args.from) (passage_at c.loop-from.self.links c.args.from)
     (c.loop-from.invariant.went some)
 
--- memory is wanted where the direction is not settled alone
-pub returns-in_err-reserve_round-clause-there : goal.returns-in_err-reserve_round-clause-there
-returns-in_err-reserve_round-clause-there c = λ settled.
+-- of a settled direction no round is made
+pub returns-then-is_settled-clause-settled : goal.returns-then-is_settled-clause-settled
+returns-then-is_settled-clause-settled c = λ settled.
+    ap Ok (first_unchanged c.loop-from.changed (is_settled c.args.round (passage_at c.args.self.now.links c.args.from))
+    c.loop-from.invariant.unsettled settled)
+
+pub returns-in_err-reserve_round-clause-settled : goal.returns-in_err-reserve_round-clause-settled
+returns-in_err-reserve_round-clause-settled c = λ settled.
+    let e = c.args.from in
+    let here : c.is_settled.result ≡ false = cc in
+    let unsettled = unsettled_first c.args.round c.loop-from.changed c.is_settled.result (passage_at c.args.self.now.links e)
+    (passage_at c.loop-from.self.links e) c.is_settled.ensures.settled here c.loop-from.invariant.still c.loop-from.invariant.unsettled in
+    absurd (let wrong : true ≡ false = sym settled ∙ unsettled in cc)
+
+pub returns-then-is_same-clause-settled : goal.returns-then-is_same-clause-settled
+returns-then-is_same-clause-settled c = λ settled.
     let e = c.args.from in
     let here : c.is_settled.result ≡ false = cc in
     let unsettled = unsettled_first c.args.round c.loop-from.changed c.is_settled.result (passage_at c.args.self.now.links e)

@@ -1,4 +1,4 @@
-use Rattle.std.proofs.Common.{◌≡◌, true, false, ap, sym, subst, ◌∙◌, MatchResult}
+use Rattle.std.proofs.Common.{◌≡◌, ap, sym, subst, ◌∙◌, MatchResult}
 use Rattle.std.proofs.lemmas.Result.{err_from_is_err_and}
 use Rattle.relay_state.specs.Passage.{Passage, Passed, SomeRounds}
 use Rattle.relay_sides.specs.Links.{passage_at, with_passage, round_from, PassedFrom, PartlyPassed}
@@ -28,7 +28,7 @@ returns-else-changed-clause-passed c =
       passage_at mid e,
       subst (λ (f : Passage → Passage). Passed f (passage_at old e)
           (passage_at mid e)) c.round_rules-round.ensures.by c.in_ok-changed.ensures.passage,
-      c.give_up_rooms.ensures.links ∙ c.in_ok-changed.ensures.frame,
+      c.in_ok-changed.ensures.frame,
     )
 
 -- A round over what was not changed is the last one.
@@ -40,7 +40,7 @@ returns-else-changed-clause-still c = λ h.
     let same = c.in_ok-changed.ensures.still h in
     let passed = subst (λ (f : Passage → Passage). Passed f (passage_at old e) (passage_at mid e)) c.round_rules-round.ensures.by
     c.in_ok-changed.ensures.passage in (
-      c.give_up_rooms.ensures.links ∙ c.in_ok-changed.ensures.frame ∙ ap (λ x. with_passage e x old) same ∙ with_same old e,
+      c.in_ok-changed.ensures.frame ∙ ap (λ x. with_passage e x old) same ∙ with_same old e,
       subst (λ x. round_from c.args.hold old e x ≡ x) same passed.2,
     )
 
@@ -55,7 +55,17 @@ returns-then-changed-clause-passed c =
       c.hand_room_back.ensures ∙ c.in_ok-changed.ensures.frame,
     )
 
-pub returns-in_err-changed-clause-there : goal.returns-in_err-changed-clause-there
-returns-in_err-changed-clause-there c = λ settled.
+pub returns-in_err-changed-clause-settled : goal.returns-in_err-changed-clause-settled
+returns-in_err-changed-clause-settled c = λ settled.
     let rules = ap (λ (t : RoundRules). is_settled t (passage_at c.args.self.now.links c.args.from)) c.round_rules-round.ensures.rules in
-    absurd (let wrong : false ≡ true = c.in_err-changed.ensures.there (rules ∙ settled) in cc)
+    absurd (let wrong = c.in_err-changed.ensures.settled (rules ∙ settled) in cc)
+
+pub returns-then-changed-clause-settled : goal.returns-then-changed-clause-settled
+returns-then-changed-clause-settled c = λ settled.
+    let rules = ap (λ (t : RoundRules). is_settled t (passage_at c.args.self.now.links c.args.from)) c.round_rules-round.ensures.rules in
+    c.in_ok-changed.ensures.settled (rules ∙ settled)
+
+pub returns-else-changed-clause-settled : goal.returns-else-changed-clause-settled
+returns-else-changed-clause-settled c = λ settled.
+    let rules = ap (λ (t : RoundRules). is_settled t (passage_at c.args.self.now.links c.args.from)) c.round_rules-round.ensures.rules in
+    c.in_ok-changed.ensures.settled (rules ∙ settled)
