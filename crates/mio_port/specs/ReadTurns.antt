@@ -45,7 +45,7 @@ TurnWent takes old new = TurnBy (nat_lt 0 old.left && takes old.who) takes old n
 abbrev pub other_end : ℕ → ℕ
 other_end n = if n % 2 == 0 then n + 1 else n - 1
 
--- more waits for an end's peer than the last write took, and the peer can be written
+-- the last write to an end's peer came short, something waits for it, and it can be written
 abbrev pub peer_drains : WantsValue → List (Option End) → ℕ → Bool
 peer_drains t ends n = t.writes (other_end n) && is_behind (slice_index_or ends (other_end n) None)
 

@@ -166,7 +166,7 @@ fn is_behind(ends: &[Option<End>], number: usize) -> bool
     }
 }
 
-// A bulky end that is ready. It isn't read while more waits for its peer than the last write took, and the peer can be written.
+// A bulky end that is ready. It isn't read while its peer's last write came short and the peer can be written.
 // A peer that keeps up is given what was read a turn before, at most one read's worth (16,384 bytes in the relay), and doesn't
 // hold it up: the one is read and the other written in one turn.
 fn is_read_first(wants: &WantTable, who: usize, bulky: &NumberSet, ends: &[Option<End>]) -> bool

@@ -158,8 +158,8 @@ impl<'a, R: Net + Clock + AllocGlobal> MioPort<'a, R> {
 ///   is marked. A wait that a signal interrupts is ready for nothing. A timeout is in milliseconds, `None` is for ever, and
 ///   more than 24 days are cut to that.
 /// - `poll_table` marks what `poll` would mark of the same wants, but of the ends whose last read filled its room at most
-///   one for reading, in turns of 64 polls, and not while more waits for its peer than the last write took, and the peer
-///   can be written. It waits as long. It doesn't go over the wants: it joins the table's sets of numbers and the port's,
+///   one for reading, in turns of 64 polls, and not while the last write to its peer came short and the peer can
+///   be written. It waits as long. It doesn't go over the wants: it joins the table's sets of numbers and the port's,
 ///   so what is wanted and isn't ready costs one word in 64 numbers.
 /// - `accept` makes both ends with `TCP_NODELAY`. The Out end is never connected yet: its check decides, also where its
 ///   connection couldn't be begun. `NoMemory` comes before anything is accepted. `NotYet` comes for a link that was
