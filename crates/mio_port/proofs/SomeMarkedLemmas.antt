@@ -13,8 +13,8 @@ use Rattle.ev_port.specs.Table.{WantsValue, is_marked, named, row, row_by, rows_
 use Rattle.ev_port.proofs.NamedLemmas.{number-side_of}
 use Rattle.mio_port.specs.declared.end.End.{End}
 use Rattle.mio_port.specs.declared.turn.Turn.{Turn}
-use Rattle.mio_port.specs.EndPlaces.{is_behind, is_bulky, is_prompt, is_read_ready, is_write_ready, wants_ready}
-use Rattle.mio_port.specs.ReadTurns.{MarkedTable, SomeMarked, TurnWent, marked_in_turn, is_read_now, other_end, peer_drains, takes_turns}
+use Rattle.mio_port.specs.EndPlaces.{is_bulky, is_prompt, is_read_ready, is_write_ready, wants_ready, came_short}
+use Rattle.mio_port.specs.ReadTurns.{ListedInTurn, MarkedTable, SomeMarked, marked_in_turn, is_read_now, other_end, drains_now, takes_turns}
 use Rattle.mio_port.proofs.TableMarkLemmas.{ready-parts}
 use Rattle.mio_port.proofs.TurnLemmas.{turn-takes}
 
@@ -74,11 +74,6 @@ listed m (w ∷ ws) h =
           omega (arith, e, more))
     ]
 
--- an end that is behind is ready for writing
-behind-ready : (place : Option End) → is_behind place ≡ true → is_write_ready place ≡ true
-behind-ready None h = h
-behind-ready (Some e) h = (and_parts e.write_ready e.behind h).0
-
 -- What is marked of one row
 
 module _ (t : WantsValue) (ends : List (Option End)) where
@@ -91,9 +86,9 @@ module _ (t : WantsValue) (ends : List (Option End)) where
   ready-row : (n : ℕ) → wants_ready ends (row t n) ≡ ((t.reads n && readable n) || (t.writes n && writable n))
   ready-row n = ap (λ m. (t.reads n && readable m) || (t.writes n && writable m)) (number-side_of n)
 
-  mark-row : (who n : ℕ) → is_marked (marked_in_turn t ends who (row t n))
-      ≡ ((t.reads n && is_read_now t ends who n) || (t.writes n && writable n))
-  mark-row who n = ap (λ m. (t.reads n && is_read_now t ends who m) || (t.writes n && writable m)) (number-side_of n)
+  mark-row : (turn : Turn) (n : ℕ) → is_marked (marked_in_turn ends turn (row t n))
+      ≡ ((t.reads n && is_read_now ends turn n) || (t.writes n && writable n))
+  mark-row turn n = ap (λ m. (t.reads n && is_read_now ends turn m) || (t.writes n && writable m)) (number-side_of n)
 
   reads_within : (n : ℕ) → t.reads n ≡ true → n < 2 * t.links
   reads_within n h = elim (cases_lt n (2 * t.links)) [
@@ -107,52 +102,59 @@ module _ (t : WantsValue) (ends : List (Option End)) where
     | inr past ↦ absurd (both_ways (t.writes n) (t.writes_end n past) h)
   ]
 
-  abbrev marks : ℕ → List Want
-  marks who = filter is_marked (map (marked_in_turn t ends who) (named t))
+  abbrev marks : Turn → List Want
+  marks turn = filter is_marked (map (marked_in_turn ends turn) (named t))
 
   both : (a b : Bool) → a ≡ true → b ≡ true → (a && b) ≡ true
   both a b p q = (λ i. p i && q i)
 
-  read-listed : (who n : ℕ) → t.reads n ≡ true → is_read_now t ends who n ≡ true → 0 < length (marks who)
-  read-listed who n wanted may =
-      listed (marked_in_turn t ends who) (named t) (any-at (λ w. is_marked (marked_in_turn t ends who w)) t.reads t.writes n (2 * t.links)
+  read-listed : (turn : Turn) (n : ℕ) → t.reads n ≡ true → is_read_now ends turn n ≡ true → 0 < length (marks turn)
+  read-listed turn n wanted may =
+      listed (marked_in_turn ends turn) (named t) (any-at (λ w. is_marked (marked_in_turn ends turn w)) t.reads t.writes n (2 * t.links)
       (reads_within n wanted) (or_left (t.reads n) (t.writes n) wanted)
-      (mark-row who n ∙ or_left (t.reads n && is_read_now t ends who n) (t.writes n && writable n)
-      (both (t.reads n) (is_read_now t ends who n) wanted may)))
+      (mark-row turn n ∙ or_left (t.reads n && is_read_now ends turn n) (t.writes n && writable n)
+      (both (t.reads n) (is_read_now ends turn n) wanted may)))
 
-  write-listed : (who n : ℕ) → t.writes n ≡ true → writable n ≡ true → 0 < length (marks who)
-  write-listed who n wanted can =
-      listed (marked_in_turn t ends who) (named t) (any-at (λ w. is_marked (marked_in_turn t ends who w)) t.reads t.writes n (2 * t.links)
+  write-listed : (turn : Turn) (n : ℕ) → t.writes n ≡ true → writable n ≡ true → 0 < length (marks turn)
+  write-listed turn n wanted can =
+      listed (marked_in_turn ends turn) (named t) (any-at (λ w. is_marked (marked_in_turn ends turn w)) t.reads t.writes n (2 * t.links)
       (writes_within n wanted) (or_right (t.reads n) (t.writes n) wanted)
-      (mark-row who n ∙ or_right (t.reads n && is_read_now t ends who n) (t.writes n && writable n)
+      (mark-row turn n ∙ or_right (t.reads n && is_read_now ends turn n) (t.writes n && writable n)
       (both (t.writes n) (writable n) wanted can)))
 
+  -- something waits for a peer that drains
+  drains-waits : (old : Turn) (who : ℕ) → drains_now t ends old who ≡ true → t.writes (other_end who) ≡ true
+  drains-waits old who h =
+      let short = came_short (get_or ends (other_end who) None) || (old.peer_drains && (old.who == who)) in
+      (and_parts (t.writes (other_end who)) short (and_parts (is_bulky (get_or ends who None)) (t.writes (other_end who) && short) h).1).0
+
   -- whose turn it is is read, or its peer is written
-  turn-listed : (who : ℕ) → takes_turns t ends who ≡ true → 0 < length (marks who)
-  turn-listed who takes =
+  turn-listed : (old new : Turn) → new.peer_drains ≡ drains_now t ends old new.who → takes_turns t ends new.who ≡ true
+      → 0 < length (marks new)
+  turn-listed old new is takes =
+      let who = new.who in
       let bulky = is_bulky (get_or ends who None) in
       let parts = and_parts (t.reads who) bulky takes in
-      elim (cases_Bool (peer_drains t ends who)) [
-        | inl drains ↦ (let place = get_or ends (other_end who) None in
-            let p = and_parts (t.writes (other_end who)) (is_behind place) drains in
-            write-listed who (other_end who) p.0 (behind-ready place p.1))
-        | inr dry ↦ read-listed who who parts.0
-            (or_right (is_prompt (get_or ends who None)) ((who == who) && (bulky && not (peer_drains t ends who)))
+      elim (cases_Bool (new.peer_drains && writable (other_end who))) [
+        | inl drains ↦ (let p = and_parts new.peer_drains (writable (other_end who)) drains in
+            write-listed new (other_end who) (drains-waits old who (sym is ∙ p.0)) p.1)
+        | inr dry ↦ read-listed new who parts.0
+            (or_right (is_prompt (get_or ends who None)) ((who == who) && (bulky && not (new.peer_drains && writable (other_end who))))
             (λ i. eq-eqb who who refl i && (parts.1 i && not (dry i))))
       ]
 
-  one-listed : (old new : Turn) (n : ℕ) → TurnWent (takes_turns t ends) old new
-      → ((t.reads n && readable n) || (t.writes n && writable n)) ≡ true → 0 < length (marks new.who)
-  one-listed old new n went h = elim (or_cases (t.reads n && readable n) (t.writes n && writable n) h) [
+  one-listed : (old new : Turn) (n : ℕ) (after : WantsValue) → ListedInTurn ends old new t after
+      → ((t.reads n && readable n) || (t.writes n && writable n)) ≡ true → 0 < length (marks new)
+  one-listed old new n after by h = elim (or_cases (t.reads n && readable n) (t.writes n && writable n) h) [
     | inl reads ↦ (
         let parts = and_parts (t.reads n) (readable n) reads in
         let place = get_or ends n None in
         elim (or_cases (is_prompt place) (is_bulky place) (ready-parts place ∙ parts.1)) [
-          | inl prompt ↦ read-listed new.who n parts.0 (or_left (is_prompt place) _ prompt)
-          | inr bulky ↦ turn-listed new.who
-              (turn-takes (takes_turns t ends) old new n went (both (t.reads n) (is_bulky place) parts.0 bulky))
+          | inl prompt ↦ read-listed new n parts.0 (or_left (is_prompt place) _ prompt)
+          | inr bulky ↦ turn-listed old new by.drains
+              (turn-takes (takes_turns t ends) old new n by.went (both (t.reads n) (is_bulky place) parts.0 bulky))
         ])
-    | inr writes ↦ (let p = and_parts (t.writes n) (writable n) writes in write-listed new.who n p.0 p.1)
+    | inr writes ↦ (let p = and_parts (t.writes n) (writable n) writes in write-listed new n p.0 p.1)
   ]
 
 pub some-marked : (ends : List (Option End)) (turn now_turn : Turn) (old new : WantsValue) (answer : Polled)
@@ -160,13 +162,11 @@ pub some-marked : (ends : List (Option End)) (turn now_turn : Turn) (old new : W
 some-marked ends turn now_turn old new (polled.Ready accept) h =
     λ some.
     let f = found (wants_ready ends) old.reads old.writes (2 * old.links) some in
-    subst (λ ws. 0 < length ws) (sym h.1) (one-listed old ends turn now_turn f.at h.0 (sym (ready-row old ends f.at) ∙ f.is))
+    subst (λ ws. 0 < length ws) (sym h.list) (one-listed old ends turn now_turn f.at new h (sym (ready-row old ends f.at) ∙ f.is))
 some-marked ends turn now_turn old new polled.Failed h = tt
 
 -- of a poll that was ready
 pub ready-marked : (ends : List (Option End)) (turn now_turn : Turn) (old new : WantsValue) (answer : Polled)
-    → TurnWent (takes_turns old ends) turn now_turn → new.list ≡ filter is_marked (map (marked_in_turn old ends now_turn.who) (named old))
-    → SomeMarked ends old new answer
-ready-marked ends turn now_turn old new (polled.Ready accept) went is =
-    some-marked ends turn now_turn old new (polled.Ready accept) (went, is)
-ready-marked ends turn now_turn old new polled.Failed went is = tt
+    → ListedInTurn ends turn now_turn old new → SomeMarked ends old new answer
+ready-marked ends turn now_turn old new (polled.Ready accept) by = some-marked ends turn now_turn old new (polled.Ready accept) by
+ready-marked ends turn now_turn old new polled.Failed by = tt

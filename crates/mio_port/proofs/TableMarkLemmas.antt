@@ -19,7 +19,7 @@ use Rattle.number_set.specs.Numbers.{NumberSetValue}
 use Rattle.mio_port.specs.declared.end.End.{End}
 use Rattle.mio_port.specs.declared.turn.Turn.{Turn}
 use Rattle.mio_port.specs.EndPlaces.{is_bulky, is_prompt, is_read_ready, is_write_ready, can_write, wants_ready, unmarked}
-use Rattle.mio_port.specs.ReadTurns.{MarkedTable, in_turn, marked_in_turn, marked_with, is_read_now, peer_drains, takes_turns}
+use Rattle.mio_port.specs.ReadTurns.{MarkedTable, in_turn, marked_in_turn, marked_with, is_read_now, other_end, takes_turns}
 
 -- The sets and the ends
 
@@ -94,39 +94,42 @@ elsewhere : (r a p b c : Bool) → (a ≡ true → b ≡ c) → (r && (p || (a &
 elsewhere r true p b c h = ap (λ x. r && (p || x)) (h refl)
 elsewhere r false p b c h = refl
 
-module _ (t : WantsValue) (ends : List (Option End)) (prompt bulky writable : NumberSetValue) (who : ℕ)
+module _ (ends : List (Option End)) (prompt bulky writable : NumberSetValue) (turn : Turn)
     (prompts : Tells prompt ends is_prompt) (bulks : Tells bulky ends is_bulky) (writes : Tells writable ends is_write_ready) where
+  abbrev who : ℕ
+  who = turn.who
+
   -- it may be read by the sets
   abbrev may : ℕ → Bool
-  may n = bulky.has n && not (peer_drains t ends n)
+  may n = bulky.has n && not (turn.peer_drains && writable.has (other_end n))
 
-  may-ends : (n : ℕ) → may n ≡ (is_bulky (get_or ends n None) && not (peer_drains t ends n))
-  may-ends n = λ i. bulks n i && not (peer_drains t ends n)
+  -- the same by the ends
+  abbrev may_end : ℕ → Bool
+  may_end n = is_bulky (get_or ends n None) && not (turn.peer_drains && is_write_ready (get_or ends (other_end n) None))
 
-  at_who : (n : ℕ) → (n == who) ≡ true → may who ≡ (is_bulky (get_or ends n None) && not (peer_drains t ends n))
-  at_who n is = ap may (sym (eqb-true n who is)) ∙ may-ends n
+  at_who : (n : ℕ) → (n == who) ≡ true → may who ≡ may_end n
+  at_who n is = ap may (sym (eqb-true n who is)) ∙ (λ i. bulks n i && not (turn.peer_drains && writes (other_end n) i))
 
   write_mark : (w : Want) → (w.write && writable.has (number w.side)) ≡ can_write ends w
   write_mark w = λ i. w.write && writes (number w.side) i
 
-  read_mark : (r : Bool) (n : ℕ) → (r && (prompt.has n || ((n == who) && may who))) ≡ (r && is_read_now t ends who n)
+  read_mark : (r : Bool) (n : ℕ) → (r && (prompt.has n || ((n == who) && may who))) ≡ (r && is_read_now ends turn n)
   read_mark r n =
       ap (λ p. r && (p || ((n == who) && may who))) (prompts n)
-      ∙ elsewhere r (n == who) (is_prompt (get_or ends n None)) (may who) (is_bulky (get_or ends n None) && not (peer_drains t ends n))
-      (at_who n)
+      ∙ elsewhere r (n == who) (is_prompt (get_or ends n None)) (may who) (may_end n) (at_who n)
 
-  pub marked-turn : may who ≡ true → marked_with prompt writable who ≡ marked_in_turn t ends who
+  pub marked-turn : may who ≡ true → marked_with prompt writable who ≡ marked_in_turn ends turn
   marked-turn h =
-      let same : (w : Want) → marked_with prompt writable who w ≡ marked_in_turn t ends who w =
+      let same : (w : Want) → marked_with prompt writable who w ≡ marked_in_turn ends turn w =
       λ w. λ i. record w {
         can_read = (taken w.read (number w.side == who) (prompt.has (number w.side)) (may who) h ∙ read_mark w.read (number w.side)) i;
         can_write = write_mark w i;
       } in
       fun_ext same
 
-  pub marked-left : may who ≡ false → marked_by prompt writable ≡ marked_in_turn t ends who
+  pub marked-left : may who ≡ false → marked_by prompt writable ≡ marked_in_turn ends turn
   marked-left h =
-      let same : (w : Want) → marked_by prompt writable w ≡ marked_in_turn t ends who w =
+      let same : (w : Want) → marked_by prompt writable w ≡ marked_in_turn ends turn w =
       λ w. λ i. record w {
         can_read = (left w.read (number w.side == who) (prompt.has (number w.side)) (may who) h ∙ read_mark w.read (number w.side)) i;
         can_write = write_mark w i;
@@ -146,8 +149,8 @@ filter-unmarked (w ∷ ws) = filter-unmarked ws
 all_marked : (mark : Want → Want) → ((w : Want) → IsMarked w (mark w)) → (ws : List Want) → AllMarked ws (map mark ws)
 all_marked mark each ws k d within = rw (get_or-map mark ws k d d within) (each (get_or ws k d))
 
-one_marked : (t : WantsValue) (ends : List (Option End)) (who : ℕ) (w : Want) → IsMarked w (marked_in_turn t ends who w)
-one_marked t ends who w = search rules
+one_marked : (ends : List (Option End)) (turn : Turn) (w : Want) → IsMarked w (marked_in_turn ends turn w)
+one_marked ends turn w = search rules
 
 one_unmarked : (w : Want) → IsMarked w (unmarked w)
 one_unmarked w = search rules
@@ -161,11 +164,11 @@ pub table-polled : (ends : List (Option End)) (turn now_turn : Turn) (old new : 
     → MarkedTable ends turn now_turn old new answer → ((plan : ⊤) (t : Trace) → by plan t → ⊥)
     → TablePolled old new timeout answer silent_end silent_end by by'
 table-polled ends turn now_turn old new timeout (polled.Ready accept) by by' listed none = record {
-  marked = map (marked_in_turn old ends now_turn.who) (named old);
-  marks = all_marked (marked_in_turn old ends now_turn.who) (one_marked old ends now_turn.who) (named old);
+  marked = map (marked_in_turn ends now_turn) (named old);
+  marks = all_marked (marked_in_turn ends now_turn) (one_marked ends now_turn) (named old);
   many = length-map (named old) _;
-  list = listed.1;
-  ends = silent (map (marked_in_turn old ends now_turn.who) (named old)) (polled.Ready accept);
+  list = listed.list;
+  ends = silent (map (marked_in_turn ends now_turn) (named old)) (polled.Ready accept);
   vouched = λ plan t was. absurd (none plan t was);
 }
 table-polled ends turn now_turn old new timeout polled.Failed by by' listed none = record {

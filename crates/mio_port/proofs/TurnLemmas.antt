@@ -9,13 +9,22 @@ use Rattle.mio_port.specs.ReadTurns.{EachHasItsTurn, PassedOver, TurnBy, TurnWen
 -- Whoever has the turn takes turns, where somebody does
 pub turn-takes : (takes : ℕ → Bool) (old new : Turn) (n : ℕ) → TurnWent takes old new → takes n ≡ true → takes new.who ≡ true
 turn-takes takes old new n went some = elim (cases_Bool (nat_lt 0 old.left && takes old.who)) [
-  | inl is ↦ ap (λ (t : Turn). takes t.who) (subst (λ b. TurnBy b takes old new) is went)
+  | inl is ↦ ap takes (subst (λ b. TurnBy b takes old new) is went).0
       ∙ (and_parts (nat_lt 0 old.left) (takes old.who) is).1
   | inr is ↦ elim (subst (λ b. TurnBy b takes old new) is went) [
     | inl on ↦ elim on.0 [ inl least ↦ least.passes | inr round ↦ round.1.passes ]
     | inr rests ↦ absurd (both_ways (takes n) (rests.0 n) some)
   ]
 ]
+
+-- what is said of the peer is no part of whose turn it is
+pub went-peer : (takes : ℕ → Bool) (old new : Turn) (drains : Bool) → TurnWent takes old new
+    → TurnWent takes old (record new { peer_drains = drains })
+went-peer takes old new drains went = alike (nat_lt 0 old.left && takes old.who) went
+  where
+    alike : (b : Bool) → TurnBy b takes old new → TurnBy b takes old (record new { peer_drains = drains })
+    alike true h = h
+    alike false h = h
 
 -- Everybody has a turn
 
@@ -111,10 +120,8 @@ module _ (takes : ℕ → Bool) (old new : Turn) (sides end polls most : ℕ) (w
         }
       ]
 
-  stayed : 0 < old.left → new ≡ record old { left = old.left - 1 } → Waits sides end (polls + 1) most new
-  stayed some is =
-      let who : new.who ≡ old.who = ap (λ (t : Turn). t.who) is in
-      let left : new.left ≡ old.left - 1 = ap (λ (t : Turn). t.left) is in
+  stayed : 0 < old.left → new.who ≡ old.who → new.left ≡ old.left - 1 → Waits sides end (polls + 1) most new
+  stayed some who left =
       let within = was.within in
       let first = was.first in
       record {
@@ -128,7 +135,7 @@ module _ (takes : ℕ → Bool) (old new : Turn) (sides end polls most : ℕ) (w
   waits-more : TurnWent takes old new → Waits sides end (polls + 1) most new
   waits-more went = elim (cases_Bool (nat_lt 0 old.left && takes old.who)) [
     | inl is ↦ stayed (ltb-true 0 old.left (and_parts (nat_lt 0 old.left) (takes old.who) is).0)
-        (subst (λ b. TurnBy b takes old new) is went)
+        (subst (λ b. TurnBy b takes old new) is went).0 (subst (λ b. TurnBy b takes old new) is went).1
     | inr is ↦ elim (subst (λ b. TurnBy b takes old new) is went) [
       | inl on ↦ elim on.0 [
         | inl least ↦ gone-on least on.1

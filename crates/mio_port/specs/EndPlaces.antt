@@ -53,12 +53,12 @@ abbrev pub is_read_ready : Option End → Bool
 is_read_ready None = false
 is_read_ready (Some e) = e.read_ready
 
--- it is ready for reading, and its last read didn't fill its room
+-- it is ready for reading, and none of its last two reads filled its room
 abbrev pub is_prompt : Option End → Bool
 is_prompt None = false
 is_prompt (Some e) = e.read_ready && not e.bulky
 
--- it is ready for reading, and its last read filled its room
+-- it is ready for reading, and one of its last two reads filled its room
 abbrev pub is_bulky : Option End → Bool
 is_bulky None = false
 is_bulky (Some e) = e.read_ready && e.bulky
@@ -67,10 +67,10 @@ abbrev pub is_write_ready : Option End → Bool
 is_write_ready None = false
 is_write_ready (Some e) = e.write_ready
 
--- it is ready for writing, and its last write took less than it was given
-abbrev pub is_behind : Option End → Bool
-is_behind None = false
-is_behind (Some e) = e.write_ready && e.behind
+-- its last write took less than it was given, or would have blocked
+abbrev pub came_short : Option End → Bool
+came_short None = false
+came_short (Some e) = e.came_short
 
 abbrev pub can_read : List (Option End) → Want → Bool
 can_read ends want = want.read && is_read_ready (slice_index_or ends (number want.side) None)

@@ -21,8 +21,9 @@ fresh by write_ready = record {
   read_ready = false;
   write_ready = write_ready;
   hung_up = false;
+  filled = false;
   bulky = false;
-  behind = false;
+  came_short = false;
   faults = 0;
 }
 
@@ -47,14 +48,16 @@ told connection.Closed x = connection.Closed
 abbrev pub told_end : End → CallMade → End
 told_end e x = record e { connection = told e.connection x }
 
--- A read that came short of its room, with no hang-up, and one that would block leave nothing to read. The end is bulky behind one that
--- filled its room, until one comes short.
+-- one more read filled its room or didn't: the end is bulky if one of the last two did
+abbrev pub counted_read : End → Bool → End
+counted_read e full = record e { filled = full; bulky = full || e.filled }
+
+-- A read that came short of its room, with no hang-up, and one that would block leave nothing to read.
 abbrev pub after_read : End → Attempt → ℕ → End
-after_read e (attempt.Moved count) room = record e {
+after_read e (attempt.Moved count) room = record (counted_read e (not (nat_lt count room))) {
   read_ready = e.read_ready && (e.hung_up || not (nat_lt count room));
-  bulky = not (nat_lt count room);
 }
-after_read e attempt.WouldBlock room = record e { read_ready = false; bulky = false }
+after_read e attempt.WouldBlock room = record (counted_read e false) { read_ready = false }
 after_read e attempt.Interrupted room = e
 after_read e attempt.Failed room = faulty e
 after_read e attempt.Absent room = e
@@ -63,15 +66,14 @@ after_read e attempt.Absent room = e
 abbrev pub read_end : End → Attempt → List ℕ → End
 read_end e a into = after_read (told_end e (call.Read a, into)) a (length into)
 
--- A write that came short of what was offered, and one that would block leave no room to write. The end is behind after such a one, until
--- one takes all.
+-- A write that came short of what was offered, and one that would block leave no room to write.
 abbrev pub after_write : End → Attempt → ℕ → End
 after_write e (attempt.Moved count) offered =
     if count == 0 then faulty e else record e {
       write_ready = e.write_ready && not (nat_lt count offered);
-      behind = nat_lt count offered;
+      came_short = nat_lt count offered;
     }
-after_write e attempt.WouldBlock offered = record e { write_ready = false; behind = true }
+after_write e attempt.WouldBlock offered = record e { write_ready = false; came_short = true }
 after_write e attempt.Interrupted offered = e
 after_write e attempt.Failed offered = faulty e
 after_write e attempt.Absent offered = e
@@ -99,4 +101,11 @@ ended_end e = told_end e (call.EndedWriting, [])
 
 -- a closed end has no connection, and keeps its count
 abbrev pub closed_end : End → End
-closed_end e = record e { connection = connection.Closed; read_ready = false; write_ready = false; bulky = false; behind = false }
+closed_end e = record e {
+  connection = connection.Closed;
+  read_ready = false;
+  write_ready = false;
+  filled = false;
+  bulky = false;
+  came_short = false;
+}

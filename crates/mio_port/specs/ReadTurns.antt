@@ -11,7 +11,7 @@ use Rattle.ev_port.specs.declared.port.Want.{Want}
 use Rattle.ev_port.specs.Table.{WantsValue, is_marked, named}
 use Rattle.mio_port.specs.declared.end.End.{End}
 use Rattle.mio_port.specs.declared.turn.Turn.{Turn}
-use Rattle.mio_port.specs.EndPlaces.{is_prompt, is_bulky, is_behind, can_write, wants_ready}
+use Rattle.mio_port.specs.EndPlaces.{is_prompt, is_bulky, is_write_ready, came_short, can_write, wants_ready}
 
 -- Whose turn it is
 
@@ -31,9 +31,9 @@ GoesTo takes who (Some n) = IsLeast takes (who + 1) n ⊎ (((k : ℕ) → who < 
 -- One poll more of the same turn; or the turn goes to the next, for 64 polls with this one; or nobody takes turns, and no poll is left to
 -- whose turn it was.
 abbrev pub TurnBy : Bool → (ℕ → Bool) → Turn → Turn → Type 0
-TurnBy true takes old new = new ≡ record old { left = old.left - 1 }
+TurnBy true takes old new = (new.who ≡ old.who) × (new.left ≡ old.left - 1)
 TurnBy false takes old new =
-    (GoesTo takes old.who (Some new.who) × (new.left ≡ 63)) ⊎ (GoesTo takes old.who None × (new ≡ record old { left = 0 }))
+    (GoesTo takes old.who (Some new.who) × (new.left ≡ 63)) ⊎ (GoesTo takes old.who None × ((new.who ≡ old.who) × (new.left ≡ 0)))
 
 -- A turn before and at a poll, by who takes turns then: it stays where it is for 64 polls, or until that end takes no turns.
 abbrev pub TurnWent : (ℕ → Bool) → Turn → Turn → Type 0
@@ -45,15 +45,20 @@ TurnWent takes old new = TurnBy (nat_lt 0 old.left && takes old.who) takes old n
 abbrev pub other_end : ℕ → ℕ
 other_end n = if n % 2 == 0 then n + 1 else n - 1
 
--- the last write to an end's peer came short, something waits for it, and it can be written
-abbrev pub peer_drains : WantsValue → List (Option End) → ℕ → Bool
-peer_drains t ends n = t.writes (other_end n) && is_behind (slice_index_or ends (other_end n) None)
+-- Whether the peer of the end whose turn it is drains: from a write that came short, through each poll at which something waits for it
+-- and the turn stays.
+abbrev pub drains_now : WantsValue → List (Option End) → Turn → ℕ → Bool
+drains_now t ends old who =
+    is_bulky (slice_index_or ends who None)
+    && (t.writes (other_end who) && (came_short (slice_index_or ends (other_end who) None) || (old.peer_drains && (old.who == who))))
 
--- A ready end may be read if it isn't bulky, or if the turn is its own and its peer doesn't drain first.
-abbrev pub is_read_now : WantsValue → List (Option End) → ℕ → ℕ → Bool
-is_read_now t ends who n =
+-- A ready end may be read if it isn't bulky, or if the turn is its own and its peer doesn't drain or can't be written.
+abbrev pub is_read_now : List (Option End) → Turn → ℕ → Bool
+is_read_now ends turn n =
     is_prompt (slice_index_or ends n None)
-    || ((n == who) && (is_bulky (slice_index_or ends n None) && not (peer_drains t ends n)))
+    || ((n == turn.who)
+    && (is_bulky (slice_index_or ends n None)
+    && not (turn.peer_drains && is_write_ready (slice_index_or ends (other_end n) None))))
 
 -- a want with a mark at what can be done, by the sets, as if the end with this number could be read too
 abbrev pub marked_with : NumberSetValue → NumberSetValue → ℕ → Want → Want
@@ -62,18 +67,22 @@ marked_with readable writable who w = record w {
   can_write = w.write && writable.has (number w.side);
 }
 
-abbrev pub marked_in_turn : WantsValue → List (Option End) → ℕ → Want → Want
-marked_in_turn t ends who w = record w {
-  can_read = w.read && is_read_now t ends who (number w.side);
+abbrev pub marked_in_turn : List (Option End) → Turn → Want → Want
+marked_in_turn ends turn w = record w {
+  can_read = w.read && is_read_now ends turn (number w.side);
   can_write = can_write ends w;
 }
 
--- What a poll of a table listed, with its marks: each want for a write that can be done, each for a read of a ready end that isn't bulky,
--- and of the others the one whose turn it is. One that failed listed nothing and leaves the turn.
+-- By turns it listed, with its marks, each want for a write that can be done, each for a read of a ready end that isn't bulky, and of the
+-- others the one whose turn it is.
+pub record ListedInTurn (ends : List (Option End)) (turn now_turn : Turn) (old new : WantsValue) : Type 0 where
+  pub went : TurnWent (takes_turns old ends) turn now_turn
+  pub drains : now_turn.peer_drains ≡ drains_now old ends turn now_turn.who
+  pub list : new.list ≡ filter is_marked (map (marked_in_turn ends now_turn) (named old))
+
+-- What a poll of a table listed. One that failed listed nothing and leaves the turn.
 abbrev pub MarkedTable : List (Option End) → Turn → Turn → WantsValue → WantsValue → Polled → Type 0
-MarkedTable ends turn now_turn old new (polled.Ready accept) =
-    TurnWent (takes_turns old ends) turn now_turn
-    × (new.list ≡ filter is_marked (map (marked_in_turn old ends now_turn.who) (named old)))
+MarkedTable ends turn now_turn old new (polled.Ready accept) = ListedInTurn ends turn now_turn old new
 MarkedTable ends turn now_turn old new polled.Failed = (now_turn ≡ turn) × (new.list ≡ [])
 
 -- where something that is wanted can be done, something is marked

@@ -5,7 +5,7 @@ ghost use Rattle.ev_port.specs.Ends.{ReadWithin, is_failed_read, WriteWithin, is
 ghost use Rattle.mio_port.specs.Attempts.{AttemptBy, CheckBy, read_answer, write_answer, check_answer};
 ghost use Rattle.mio_port.specs.EndAnswers.{ReadBy, WrittenBy, CheckedBy};
 ghost use Rattle.mio_port.specs.EndLeft.{ReadLeft, WriteLeft, CheckLeft};
-ghost use Rattle.mio_port.specs.OneEnd.{fresh, told, after_read, after_write, after_check, noticed_end, ended_end, closed_end};
+ghost use Rattle.mio_port.specs.OneEnd.{fresh, told, counted_read, after_read, after_write, after_check, noticed_end, ended_end, closed_end};
 
 use crate::attempt::Attempt;
 use crate::check::Check;
@@ -25,8 +25,9 @@ pub(crate) enum Connection {
 }
 
 /// One end. The bits say that the kernel reported it ready for a way and that no call has found otherwise since; the end
-/// is hung up once the kernel told that the peer sends no more, or of an error. It is bulky if its last read filled the room
-/// that it was given. It is behind if its last write took less than it was given, or would have blocked.
+/// is hung up once the kernel told that the peer sends no more, or of an error. It is bulky if one of its last two reads filled
+/// the room that it was given: what is sent in bulk comes in bursts, at the end of which one read comes short. Its last write came
+/// short if it took less than it was given, or would have blocked.
 ///
 /// Own.
 #[derive(Drop)]
@@ -35,8 +36,9 @@ pub(crate) struct End {
     read_ready: bool,
     write_ready: bool,
     hung_up: bool,
+    filled: bool,
     bulky: bool,
-    behind: bool,
+    came_short: bool,
     faults: u64,
 }
 
@@ -93,8 +95,9 @@ impl End {
             read_ready: false,
             write_ready: false,
             hung_up: false,
+            filled: false,
             bulky: false,
-            behind: false,
+            came_short: false,
             faults: 0,
         }
     }
@@ -108,8 +111,9 @@ impl End {
             read_ready: false,
             write_ready: true,
             hung_up: false,
+            filled: false,
             bulky: false,
-            behind: false,
+            came_short: false,
             faults: 0,
         }
     }
@@ -132,10 +136,10 @@ impl End {
         self.write_ready
     }
 
-    pub(crate) fn is_behind(&self) -> bool
-        ensures { result ≡ self.now.behind }
+    pub(crate) fn came_short(&self) -> bool
+        ensures { result ≡ self.now.came_short }
     {
-        self.behind
+        self.came_short
     }
 
     /// An error and a hang-up make it ready both ways.
@@ -161,14 +165,22 @@ impl End {
         self.take_read(attempt, into.len())
     }
 
+    // A read that would have blocked counts as one that came short.
+    fn count_read(&mut self, is_full: bool)
+        ensures { self.new ≡ counted_read self.old is_full }
+    {
+        self.bulky = is_full || self.filled;
+        self.filled = is_full;
+    }
+
     fn take_read(&mut self, attempt: Attempt, room: usize) -> ReadAnswer
         ensures answer { result ≡ read_answer attempt }
         ensures after { self.new ≡ after_read self.old attempt room }
     {
         match attempt {
             Attempt::Moved(count) => {
-                self.bulky = count >= room;
-                self.read_ready = self.read_ready && (self.hung_up || self.bulky);
+                self.count_read(count >= room);
+                self.read_ready = self.read_ready && (self.hung_up || self.filled);
                 if count == 0 {
                     ReadAnswer::Ended
                 } else {
@@ -177,7 +189,7 @@ impl End {
             }
             Attempt::WouldBlock => {
                 self.read_ready = false;
-                self.bulky = false;
+                self.count_read(false);
                 ReadAnswer::NotYet
             }
             Attempt::Interrupted | Attempt::Absent => ReadAnswer::NotYet,
@@ -210,13 +222,13 @@ impl End {
                 WriteAnswer::Failed
             }
             Attempt::Moved(count) => {
-                self.behind = count < offered;
-                self.write_ready = self.write_ready && !self.behind;
+                self.came_short = count < offered;
+                self.write_ready = self.write_ready && !self.came_short;
                 WriteAnswer::Took(count)
             }
             Attempt::WouldBlock => {
                 self.write_ready = false;
-                self.behind = true;
+                self.came_short = true;
                 WriteAnswer::NotYet
             }
             Attempt::Interrupted | Attempt::Absent => WriteAnswer::NotYet,
@@ -268,7 +280,8 @@ impl End {
         self.connection = Connection::Closed;
         self.read_ready = false;
         self.write_ready = false;
+        self.filled = false;
         self.bulky = false;
-        self.behind = false;
+        self.came_short = false;
     }
 }

@@ -12,9 +12,9 @@ ghost use Rattle.mio_port.specs.EndLeft.{LeftAt, PlaceLeft, ReadLeft, WriteLeft,
 ghost use Rattle.mio_port.specs.PortCalls.{OthersStay};
 ghost use Rattle.mio_port.specs.OneEnd.{noticed_end, ended_end, closed_end};
 ghost use Rattle.mio_port.specs.EndPlaces.{faults_of, CountsStay, CountsAt, PlacesStay, PlaceWent, holds, is_made};
-ghost use Rattle.mio_port.specs.EndPlaces.{is_behind, is_bulky, is_prompt, is_write_ready, can_read, can_write, wants_ready};
+ghost use Rattle.mio_port.specs.EndPlaces.{came_short, is_bulky, is_prompt, is_write_ready, can_read, can_write, wants_ready};
 ghost use Rattle.mio_port.specs.EndPlaces.{marked, unmarked};
-ghost use Rattle.mio_port.specs.ReadTurns.{marked_in_turn, marked_with, peer_drains, takes_turns, TurnWent};
+ghost use Rattle.mio_port.specs.ReadTurns.{ListedInTurn, drains_now, marked_with, other_end};
 
 use crate::end::End;
 use crate::turn::{Turn, other_end, wants_at};
@@ -25,7 +25,7 @@ use number_set::NumberSet;
 use std::alloc::{AllocError, Global};
 
 /// The ends of all links: each link's In end at twice its number, and its Out end behind it. Beside them stand the numbers
-/// of the ends that are ready for reading, those whose last read filled its room in a set of their own, and of those that are
+/// of the ends that are ready for reading, the bulky ones in a set of their own, and of those that are
 /// ready for writing, so that a poll looks at one end at most.
 ///
 /// Own.
@@ -156,28 +156,14 @@ fn keep_up(
     writable.put(number, can_write);
 }
 
-// The end with this number can be written, and its last write took less than it was given.
-fn is_behind(ends: &[Option<End>], number: usize) -> bool
-    ensures { result ≡ is_behind (slice_index_or ends.now number None) }
+// The last write to the end with this number took less than it was given, or would have blocked.
+fn came_short(ends: &[Option<End>], number: usize) -> bool
+    ensures { result ≡ came_short (slice_index_or ends.now number None) }
 {
     match ends.get(number) {
-        Some(Some(end)) => end.is_write_ready() && end.is_behind(),
+        Some(Some(end)) => end.came_short(),
         _ => false,
     }
-}
-
-// A bulky end that is ready. It isn't read while its peer's last write came short and the peer can be written.
-// A peer that keeps up is given what was read a turn before, at most one read's worth (16,384 bytes in the relay), and doesn't
-// hold it up: the one is read and the other written in one turn.
-fn is_read_first(wants: &WantTable, who: usize, bulky: &NumberSet, ends: &[Option<End>]) -> bool
-    ensures { result ≡ (bulky.now.has who && not (peer_drains wants.now ends.now who)) }
-{
-    if !bulky.contains(who) {
-        return false;
-    }
-    let peer = other_end(who);
-    let (_read, write) = wants_at(wants, peer);
-    !(write && is_behind(ends, peer))
 }
 
 // Lists what can be done, as if the end with this number could be read too.
@@ -327,20 +313,43 @@ impl Ends {
     }
 
     /// Lists in a table what it wants and can be done, with the marks; of the bulky ends only that whose turn it is by now, and
-    /// not while its peer is behind and can be written. Only the sets are looked at, and that peer.
+    /// not while its peer drains and can be written. Only the sets are looked at, and that peer.
     pub(crate) fn mark_table(&mut self, turn: Turn, wants: &mut WantTable) -> Turn
         ensures stays { self.new.ends ≡ self.old.ends }
         ensures rows { RowsStay wants.old wants.new }
-        ensures turn { TurnWent (takes_turns wants.old self.old.ends.items) turn result }
-        ensures list { wants.new.list ≡ filter is_marked (map (marked_in_turn wants.old self.old.ends.items result.who) (named wants.old)) }
+        ensures listed { ListedInTurn self.old.ends.items turn result wants.old wants.new }
     {
-        let turn = turn.next(wants, &self.bulky);
-        if is_read_first(wants, turn.who, &self.bulky, &self.ends) {
-            mark_with(&mut self.prompt, &self.writable, turn.who, wants);
+        let mut next = turn.next(wants, &self.bulky);
+        next.peer_drains = self.drains_now(wants, turn, next.who);
+        if self.is_read_first(next) {
+            mark_with(&mut self.prompt, &self.writable, next.who, wants);
         } else {
             wants.mark_ready(&self.prompt, &self.writable);
         }
-        turn
+        next
+    }
+
+    // Whether the peer of the end with this number drains, whose turn it is by now. What was said of the peer at the poll before
+    // counts where the turn stayed.
+    fn drains_now(&self, wants: &WantTable, before: Turn, who: usize) -> bool
+        ensures { result ≡ drains_now wants.now self.now.ends.items before who }
+    {
+        if !self.bulky.contains(who) {
+            return false;
+        }
+        let peer = other_end(who);
+        let (_read, is_waited_for) = wants_at(wants, peer);
+        is_waited_for && (came_short(&self.ends, peer) || (before.peer_drains && before.who == who))
+    }
+
+    // A bulky end that is ready is read in its turn, but not while its peer drains and can be written. A peer that keeps up is given
+    // what was read a turn before, at most one read's worth (16,384 bytes in the relay), and doesn't hold it up: the one is read
+    // and the other written in one turn.
+    fn is_read_first(&self, turn: Turn) -> bool
+        ensures { result ≡ (self.now.bulky.has turn.who && not (turn.peer_drains && self.now.writable.has (other_end turn.who))) }
+    {
+        self.bulky.contains(turn.who)
+            && !(turn.peer_drains && self.writable.contains(other_end(turn.who)))
     }
 
     fn marked(&self, want: Want) -> Want

@@ -91,7 +91,7 @@ impl<'a, R: Net + Clock + AllocGlobal> MioPort<'a, R> {
         ensures ends { result.ends.ends.items ≡ [] }
         ensures kernel { result.kernel ≡ None }
         ensures clock { result.clock.last ≡ 0 }
-        ensures turn { (result.turn.who ≡ 0) × (result.turn.left ≡ 0) }
+        ensures turn { result.turn ≡ record { who = 0; left = 0; peer_drains = false } }
     {
         MioPort {
             rt,
@@ -157,9 +157,9 @@ impl<'a, R: Net + Clock + AllocGlobal> MioPort<'a, R> {
 /// - `poll` is `Failed`, at the count of polling, before the first start and where the kernel refuses to wait; then nothing
 ///   is marked. A wait that a signal interrupts is ready for nothing. A timeout is in milliseconds, `None` is for ever, and
 ///   more than 24 days are cut to that.
-/// - `poll_table` marks what `poll` would mark of the same wants, but of the ends whose last read filled its room at most
-///   one for reading, in turns of 64 polls, and not while the last write to its peer came short and the peer can
-///   be written. It waits as long. It doesn't go over the wants: it joins the table's sets of numbers and the port's,
+/// - `poll_table` marks what `poll` would mark of the same wants, but of the bulky ends, those one of whose last two reads filled
+///   its room, at most one for reading, in turns of 64 polls, and from a write to its peer that came short not before all
+///   that waits for the peer was given, while it can be written. It waits as long. It doesn't go over the wants: it joins the table's sets of numbers and the port's,
 ///   so what is wanted and isn't ready costs one word in 64 numbers.
 /// - `accept` makes both ends with `TCP_NODELAY`. The Out end is never connected yet: its check decides, also where its
 ///   connection couldn't be begun. `NoMemory` comes before anything is accepted. `NotYet` comes for a link that was

@@ -1,5 +1,5 @@
-// Bulky ends are read in turns: those whose last read filled its room. What a poll marks by that stands beside the ends.
-ghost use Rattle.std.specs.Prelude.{◌≡◌, ℕ, ◌+◌, ◌^◌, ◌<◌, ◌≤◌, ◌&&◌, IfSome};
+// Bulky ends are read in turns. What a poll marks by that stands beside the ends.
+ghost use Rattle.std.specs.Prelude.{◌≡◌, ℕ, ◌+◌, ◌^◌, ◌<◌, ◌≤◌, ◌&&◌, false, IfSome};
 ghost use Rattle.number_set.specs.Next.{IsNext};
 ghost use Rattle.mio_port.specs.ReadTurns.{in_turn, other_end, EachHasItsTurn, GoesTo, TurnWent};
 
@@ -10,25 +10,31 @@ use number_set::NumberSet;
 /// let the others wait.
 const POLLS: u32 = 64;
 
-/// The number of the end whose turn it is to be read, and for how many polls more it may be.
+/// The number of the end whose turn it is to be read, and for how many polls more it may be. Its peer drains from a write that
+/// came short until a poll finds that nothing waits for it: one full write doesn't tell that all was given.
 ///
 /// Own.
 #[derive(Clone, Copy, Debug, PartialEq, Eq)]
 pub(crate) struct Turn {
     pub(crate) who: usize,
     left: u32,
+    pub(crate) peer_drains: bool,
 }
 
 impl Turn {
     /// Nobody had a turn yet.
     pub(crate) fn new() -> Turn
-        ensures who { result.who ≡ 0 }
-        ensures left { result.left ≡ 0 }
+        ensures { result ≡ record { who = 0; left = 0; peer_drains = false } }
     {
-        Turn { who: 0, left: 0 }
+        Turn {
+            who: 0,
+            left: 0,
+            peer_drains: false,
+        }
     }
 
-    /// The turn at the next poll of a table, by the numbers of the bulky ends that are ready.
+    /// The turn at the next poll of a table, by the numbers of the bulky ends that are ready. What was said of
+    /// the peer stays.
     pub(crate) fn next(self, wants: &WantTable, bulky: &NumberSet) -> Turn
         ensures { TurnWent (in_turn wants.now bulky.now) self result }
     {
@@ -42,6 +48,7 @@ impl Turn {
             Some(who) => Turn {
                 who,
                 left: POLLS - 1,
+                ..self
             },
             None => Turn { left: 0, ..self },
         }

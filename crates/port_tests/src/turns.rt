@@ -1,4 +1,4 @@
-// Bulky ends over loopback: they are read in turns, and not while their peer is behind and can be written.
+// Bulky ends over loopback: they are read in turns, and not while their peer drains and can be written.
 use crate::acts::{IN_0, OUT_0, READING, WRITING, want};
 use crate::loopback::{RealPort, World, is_marked, new_world};
 use crate::steps::{empties, fills};
@@ -79,6 +79,25 @@ fn takes_turns(port: &mut RealPort<'_>, table: &mut WantTable) -> [bool; 5] {
     [first, second, again, alone, short]
 }
 
+/// So many bytes come to the Out end, and it is ready to be read.
+fn comes(world: &mut World<'_>, count: usize) -> Result<bool, Fail> {
+    let Some(far) = &mut world.far else {
+        return Err(Fail::new("the far end went"));
+    };
+    far.write_all([0; 8].as_slice().split_at(count).0)?;
+    Ok(is_marked(&mut world.port, OUT_0, READING))
+}
+
+/// Whether an end takes turns behind one read that came short, and none behind two.
+fn stays_bulky(world: &mut World<'_>, table: &mut WantTable) -> Result<[bool; 4], Fail> {
+    let came = comes(world, 8)?;
+    let once = lists(&mut world.port, table, &[READS_OUT], POLLS);
+    let other = lists(&mut world.port, table, &[READS_IN], POLLS);
+    let read = world.port.read(OUT_0, &mut [0; 16]) == ReadAnswer::Got(8);
+    let twice = comes(world, 8)? && lists(&mut world.port, table, &[READS_IN, READS_OUT], POLLS);
+    Ok([came && read, once, other, twice])
+}
+
 /// The far end reads so many bytes, and the Out end can be written again.
 fn drains(world: &mut World<'_>, count: usize) -> Result<bool, Fail> {
     let Some(far) = &mut world.far else {
@@ -88,8 +107,9 @@ fn drains(world: &mut World<'_>, count: usize) -> Result<bool, Fail> {
 }
 
 /// Whether what has the turn is read beside a write to its peer: before the first one, not behind one that came short, unless
-/// the peer is full or wants no more, and again behind one that took all.
-fn drains_first(world: &mut World<'_>, table: &mut WantTable) -> Result<[bool; 5], Fail> {
+/// the peer is full or nothing waits for it; not behind one that took all while something waits still, and again behind a
+/// poll at which nothing did.
+fn drains_first(world: &mut World<'_>, table: &mut WantTable) -> Result<[bool; 7], Fail> {
     let writes = want((OUT_0, WRITING, WRITING));
     wants(table, OUT_0, false, true);
     let first = lists(&mut world.port, table, &[READS_IN, writes], POLLS);
@@ -98,22 +118,28 @@ fn drains_first(world: &mut World<'_>, table: &mut WantTable) -> Result<[bool; 5
     };
     let full = lists(&mut world.port, table, &[READS_IN], 1);
     let drained = drains(world, taken)?;
-    let behind = drained && lists(&mut world.port, table, &[writes], POLLS);
+    let drains = drained && lists(&mut world.port, table, &[writes], POLLS);
     wants(table, OUT_0, false, false);
     let unwanted = lists(&mut world.port, table, &[READS_IN], 1);
     wants(table, OUT_0, false, true);
+    let short = lists(&mut world.port, table, &[writes], 1);
     let took = world.port.write(OUT_0, b"x") == WriteAnswer::Took(1);
-    let again = took && lists(&mut world.port, table, &[READS_IN, writes], POLLS);
-    Ok([first, full, behind, unwanted, again])
+    let more = took && lists(&mut world.port, table, &[writes], POLLS);
+    wants(table, OUT_0, false, false);
+    let given = lists(&mut world.port, table, &[READS_IN], 1);
+    wants(table, OUT_0, false, true);
+    let again = given && lists(&mut world.port, table, &[READS_IN, writes], POLLS);
+    Ok([first, full, drains, unwanted, short, more, again])
 }
 
 fn plays(
     world: &mut World<'_>,
     table: &mut WantTable,
-) -> Result<(bool, [bool; 5], [bool; 5]), Fail> {
+) -> Result<(bool, [bool; 5], [bool; 4], [bool; 7]), Fail> {
     let is_bulky = sends_both(world)?;
     let turns = takes_turns(&mut world.port, table);
-    Ok((is_bulky, turns, drains_first(world, table)?))
+    let stays = stays_bulky(world, table)?;
+    Ok((is_bulky, turns, stays, drains_first(world, table)?))
 }
 
 #[test]
@@ -123,6 +149,6 @@ fn bulky_ends_are_read_in_turns(rt: HostRuntime) -> Result<(), Fail> {
     let played = plays(&mut world, &mut table);
     drop(world);
     drop(table);
-    assert_eq!(rt; played?, (true, [true; 5], [true; 5]));
+    assert_eq!(rt; played?, (true, [true; 5], [true; 4], [true; 7]));
     Ok(())
 }

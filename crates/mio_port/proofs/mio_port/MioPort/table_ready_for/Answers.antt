@@ -11,4 +11,4 @@ returns-in-Ready-clause-some g c =
     subst (λ (e : Vec (Option End) Global). SomeMarked e.items c.args.wants.now c.mark_table-self.new.wants c.wait-polled.result)
     (sym c.mark_table-self.ensures.stays)
     (ready-marked c.wait-polled.new.self.ends.ends.items c.wait-polled.new.self.turn c.mark_table-self.result c.args.wants.now
-    c.mark_table-self.new.wants c.wait-polled.result c.mark_table-self.ensures.turn c.mark_table-self.ensures.list)
+    c.mark_table-self.new.wants c.wait-polled.result c.mark_table-self.ensures.listed)
