@@ -5,7 +5,8 @@ ghost use Rattle.ev_port.specs.Ends.{ReadWithin, is_failed_read, WriteWithin, is
 ghost use Rattle.mio_port.specs.Attempts.{AttemptBy, CheckBy, read_answer, write_answer, check_answer};
 ghost use Rattle.mio_port.specs.EndAnswers.{ReadBy, WrittenBy, CheckedBy};
 ghost use Rattle.mio_port.specs.EndLeft.{ReadLeft, WriteLeft, CheckLeft};
-ghost use Rattle.mio_port.specs.OneEnd.{fresh, told, counted_read, after_read, after_write, after_check, noticed_end, ended_end, closed_end};
+ghost use Rattle.mio_port.specs.OneEnd.{fresh, told, after_read, after_write, after_check};
+ghost use Rattle.mio_port.specs.OneEnd.{closed_end, counted_read, ended_end, noticed_end};
 
 use crate::attempt::Attempt;
 use crate::check::Check;

@@ -150,8 +150,9 @@ impl<'a, R: Net + Clock + AllocGlobal> MioPort<'a, R> {
 /// What the trait leaves open, call by call:
 ///
 /// - `start` listens with `SO_REUSEADDR` and the longest queue that the system allows. It is `Failed`, at the listener's
-///   count, where the address can't be had and where there are fewer descriptors than one link needs, and `NoMemory` where the table of reports or the kernel finds none. A second
-///   start closes the first listener before it makes its own, and leaves the ends. After one that failed nothing listens.
+///   count, where the address can't be had and where there are fewer descriptors than one link needs, and `NoMemory` where
+///   the table of reports or the kernel finds none. A second start closes the first listener before it makes its own, and
+///   leaves the ends. After one that failed nothing listens.
 /// - `now` is in milliseconds since the port was made and never falls. Where the system's clock can't be read it is the
 ///   last reading.
 /// - `poll` is `Failed`, at the count of polling, before the first start and where the kernel refuses to wait; then nothing
@@ -159,8 +160,8 @@ impl<'a, R: Net + Clock + AllocGlobal> MioPort<'a, R> {
 ///   more than 24 days are cut to that.
 /// - `poll_table` marks what `poll` would mark of the same wants, but of the bulky ends, those one of whose last two reads filled
 ///   its room, at most one for reading, in turns of 64 polls, and from a write to its peer that came short not before all
-///   that waits for the peer was given, while it can be written. It waits as long. It doesn't go over the wants: it joins the table's sets of numbers and the port's,
-///   so what is wanted and isn't ready costs one word in 64 numbers.
+///   that waits for the peer was given, while it can be written. It waits as long. It doesn't go over the wants: it joins the
+///   table's sets of numbers and the port's, so what is wanted and isn't ready costs one word in 64 numbers.
 /// - `accept` makes both ends with `TCP_NODELAY`. The Out end is never connected yet: its check decides, also where its
 ///   connection couldn't be begun. `NoMemory` comes before anything is accepted. `NotYet` comes for a link that was
 ///   accepted before, where none waits, where one went before it was taken, and where the system is short of

@@ -17,7 +17,7 @@ returns-then-is_read_first-clause-listed c =
     let same = marked-turn ends.ends.items ends.prompt ends.bulky ends.writable turn ends.prompts ends.bulks ends.writes may in
     record {
       went = subst (λ takes. TurnWent takes c.args.turn turn) (in_turn-ends wants ends.ends.items ends.bulky ends.bulks)
-        (went-peer (in_turn wants ends.bulky) c.args.turn next c.drains_now.result c.next-next.ensures);
+          (went-peer (in_turn wants ends.bulky) c.args.turn next c.drains_now.result c.next-next.ensures);
       drains = c.drains_now.ensures;
       list = c.mark_with.ensures.list ∙ ap (λ mark. filter is_marked (map mark (named wants))) same;
     }
@@ -32,7 +32,7 @@ returns-else-is_read_first-clause-listed c =
     let same = marked-left ends.ends.items ends.prompt ends.bulky ends.writable turn ends.prompts ends.bulks ends.writes may in
     record {
       went = subst (λ takes. TurnWent takes c.args.turn turn) (in_turn-ends wants ends.ends.items ends.bulky ends.bulks)
-        (went-peer (in_turn wants ends.bulky) c.args.turn next c.drains_now.result c.next-next.ensures);
+          (went-peer (in_turn wants ends.bulky) c.args.turn next c.drains_now.result c.next-next.ensures);
       drains = c.drains_now.ensures;
       list = c.mark_ready.ensures.list ∙ ap (λ mark. filter is_marked (map mark (named wants))) same;
     }
