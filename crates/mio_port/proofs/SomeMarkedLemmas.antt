@@ -1,7 +1,7 @@
 -- Where something that a table wants can be done, a poll marks something: a write, a read of an end that isn't bulky, or what the turn
 -- leaves.
 use Rattle.std.proofs.Common.{◌≡◌, ◌∙◌, ℕ, zero, suc, ◌*◌, ◌<◌, ◌==◌, length, Bool, true, false, cond, ◌&&◌, ◌||◌, not, List}
-use Rattle.std.proofs.Common.{[], ◌∷◌, Option, None, Some, map, refl, sym, ap, subst, arith, inl, inr, get_or, eq-eqb}
+use Rattle.std.proofs.Common.{[], ◌∷◌, Option, None, map, refl, sym, ap, subst, arith, inl, inr, get_or, eq-eqb}
 use Rattle.std.specs.Prelude.{filter}
 use Rattle.std.specs.List.{list_any}
 use Rattle.std.proofs.lemmas.Bool.{and_parts, both_ways, cases_Bool, cases_eq, cases_lt, or_cases, or_left, or_right}
