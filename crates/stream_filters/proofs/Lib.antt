@@ -8,5 +8,6 @@ pub mod ShiftLemmas
 pub mod HouseSteps
 pub mod StreamShift
 pub mod DigitLemmas
+pub mod FourLemmas
 pub mod PairLemmas
 pub mod BytewiseLemmas

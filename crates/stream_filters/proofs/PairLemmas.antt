@@ -12,7 +12,7 @@ use Rattle.filter_model.specs.Filter.{hex_in, is_hex, hex_value}
 use Rattle.filter_model.specs.FilterRun.{Ran, run, adds}
 use Rattle.filter_model.specs.FilterCuts.{joined}
 use Rattle.stream_filters.specs.Knowledge.{IsDigitLast}
-use Rattle.stream_filters.specs.Parts.{AppendsPart, ArePairs, ReadsPairs, HasRoom}
+use Rattle.stream_filters.specs.Parts.{AppendsPart, ArePairs, ReadsPairs, HasRoom, value_of_pair}
 use Rattle.stream_filters.proofs.PartLemmas.{run-byte}
 
 abbrev value_of : ℕ → ℕ → ℕ
@@ -172,10 +172,62 @@ pairs-none limit src old below = record {
   filled = sym (append-nil old);
 }
 
--- a byte whose digit value is known is a digit
-pub digit-hex : (x v : ℕ) → Some v ≡ (if is_hex x then Some (hex_value x) else None) → is_hex x ≡ true
-digit-hex x v e = go (is_hex x) e
+-- two bytes that spell this one are digits
+pub record IsPair (x y v : ℕ) : Type 0 where
+  pub first : is_hex x ≡ true
+  pub second : is_hex y ≡ true
+  pub value : v ≡ 16 * hex_value x + hex_value y
+
+pub pair-cases : (x y v : ℕ) → Some v ≡ value_of_pair x y → IsPair x y v
+pair-cases x y v e = go (is_hex x) (is_hex y) refl refl e
   where
-    go : (b : Bool) → Some v ≡ (if b then Some (hex_value x) else None) → b ≡ true
-    go true e = refl
-    go false e = absurd (cc)
+    go : (a b : Bool) → is_hex x ≡ a → is_hex y ≡ b → Some v ≡ (if a && b then Some (16 * hex_value x + hex_value y) else None)
+        → IsPair x y v
+    go true true p q e = record { first = p; second = q; value = (cc) }
+    go true false p q e = absurd (cc)
+    go false b p q e = absurd (cc)
+
+-- four pairs more, with the room that they need
+module _ (limit count : ℕ) (last : Option ℕ) (src old : List ℕ) (even : count % 2 ≡ 0) (new : List ℕ) (used capacity : ℕ)
+    (r : ReadsPairs limit src old new used) {a b c d : ℕ}
+    (p : IsPair (slice_index src used) (slice_index src (used + 1)) a)
+    (q : IsPair (slice_index src (used + 2)) (slice_index src (used + 2 + 1)) b)
+    (s : IsPair (slice_index src (used + 4)) (slice_index src (used + 4 + 1)) c)
+    (t : IsPair (slice_index src (used + 6)) (slice_index src (used + 6 + 1)) d)
+    (within : used + 7 < length src) (below : length new + 4 ≤ limit) where
+  one : {n x y v : ℕ} (z : List ℕ) → ReadsPairs limit src old z n → slice_index src n ≡ x → slice_index src (n + 1) ≡ y → IsPair x y v
+      → n + 1 < length src → length z < limit → ReadsPairs limit src old (z ++ v ∷ []) (n + 2)
+  one {n} {x} {y} z reads first second pair inside short =
+      subst (λ w. ReadsPairs limit src old (z ++ w ∷ []) (n + 2)) (sym pair.value)
+      (pair-more limit count last src old even z n capacity x y reads first second pair.first pair.second inside short)
+
+  after-one : ReadsPairs limit src old (new ++ a ∷ []) (used + 2)
+  after-one = one new r refl refl p (omega (arith, within)) (omega (arith, below))
+
+  after-two : ReadsPairs limit src old (new ++ a ∷ b ∷ []) (used + 4)
+  after-two =
+      let m : used + 2 + 2 ≡ used + 4 = omega arith in
+      subst (λ k. ReadsPairs limit src old (new ++ a ∷ b ∷ []) k) m (subst (λ z. ReadsPairs limit src old z (used + 2 + 2))
+      (append_assoc new (a ∷ []) (b ∷ [])) (one (new ++ a ∷ []) after-one refl refl q (omega (arith, within))
+      (omega (arith, below, length-append new (a ∷ [])))))
+
+  after-three : ReadsPairs limit src old (new ++ a ∷ b ∷ c ∷ []) (used + 6)
+  after-three =
+      let m : used + 4 + 2 ≡ used + 6 = omega arith in
+      subst (λ k. ReadsPairs limit src old (new ++ a ∷ b ∷ c ∷ []) k) m (subst (λ z. ReadsPairs limit src old z (used + 4 + 2))
+      (append_assoc new (a ∷ b ∷ []) (c ∷ [])) (one (new ++ a ∷ b ∷ []) after-two refl refl s (omega (arith, within))
+      (omega (arith, below, length-append new (a ∷ b ∷ [])))))
+
+  pub four-more : ReadsPairs limit src old (new ++ a ∷ b ∷ c ∷ d ∷ []) (used + 8)
+  four-more =
+      let m : used + 6 + 2 ≡ used + 8 = omega arith in
+      subst (λ k. ReadsPairs limit src old (new ++ a ∷ b ∷ c ∷ d ∷ []) k) m (subst (λ z. ReadsPairs limit src old z (used + 6 + 2))
+      (append_assoc new (a ∷ b ∷ c ∷ []) (d ∷ [])) (one (new ++ a ∷ b ∷ c ∷ []) after-three refl refl t
+      (omega (arith, within)) (omega (arith, below, length-append new (a ∷ b ∷ c ∷ [])))))
+
+  pub four-room : HasRoom kind.HexIn limit count last src old capacity → length new + 4 ≤ capacity
+  four-room room =
+      let last_of = pair-room limit count last src old even (new ++ a ∷ b ∷ c ∷ []) (used + 6) capacity (slice_index src (used + 6))
+      (slice_index src (used + 6 + 1)) after-three refl refl t.first t.second (omega (arith, within))
+      (omega (arith, below, length-append new (a ∷ b ∷ c ∷ []))) room in
+      omega (arith, last_of, length-append new (a ∷ b ∷ c ∷ []))

@@ -1,8 +1,9 @@
 -- The parts in which the code makes a run.
-use Rattle.std.specs.Prelude.{◌≡◌, ℕ, suc, ◌+◌, ◌≤◌, true, List, [], ◌∷◌, ◌++◌, length, take, drop, Option}
+use Rattle.std.specs.Prelude.{◌≡◌, ℕ, suc, ◌+◌, ◌*◌, ◌≤◌, ◌&&◌, true, if◌then◌else◌, Option, Some, None}
+use Rattle.std.specs.Prelude.{List, [], ◌∷◌, ◌++◌, length, take, drop}
 use Rattle.std.specs.List.{last_or}
 use Rattle.ev_types.specs.declared.filter.FilterKind.{FilterKind}
-use Rattle.filter_model.specs.Filter.{is_hex, hex_in}
+use Rattle.filter_model.specs.Filter.{is_hex, hex_in, hex_value}
 use Rattle.filter_model.specs.FilterRun.{run, nothing_ran}
 use Rattle.filter_model.specs.FilterCuts.{joined}
 use Rattle.stream_filters.specs.declared.knowledge.Knowledge.{Knowledge}
@@ -22,6 +23,10 @@ pub record AppendsPart (k : FilterKind) (limit count : ℕ) (last : Option ℕ) 
 pub data ArePairs : ℕ → List ℕ → Type 0 where
   no_pairs : ArePairs 0 []
   pair : {m x y : ℕ} {xs : List ℕ} → is_hex x ≡ true → is_hex y ≡ true → ArePairs m xs → ArePairs (suc m) (x ∷ y ∷ xs)
+
+-- the byte that two digits spell
+abbrev pub value_of_pair : ℕ → ℕ → Option ℕ
+value_of_pair x y = if is_hex x && is_hex y then Some (16 * hex_value x + hex_value y) else None
 
 -- Pairs of digits at the front of src were read, and the bytes that they spell were appended, as far as the limit allows.
 pub record ReadsPairs (limit : ℕ) (src old new : List ℕ) (used : ℕ) : Type 0 where

@@ -8,7 +8,7 @@ ghost use Rattle.ev_types.specs.declared.filter.FilterKind.TheVariants as kind_o
 ghost use Rattle.filter_model.specs.Filter.{hex_out, hex_value};
 ghost use Rattle.filter_model.specs.FilterRun.{adds};
 ghost use Rattle.stream_filters.specs.Knowledge.{IsDigitLast};
-ghost use Rattle.stream_filters.specs.Parts.{AppendsPart, HasRoom, ReadsPairs};
+ghost use Rattle.stream_filters.specs.Parts.{AppendsPart, HasRoom, ReadsPairs, value_of_pair};
 
 use crate::digits::{digit_value, hex_digit};
 use crate::knowledge::Knowledge;
@@ -36,7 +36,7 @@ fn put_byte(dst: &mut Vec<u8>, byte: u8)
     ensures len { vec_len dst.new ≡ vec_len dst.old + 1 }
     ensures capacity { vec_capacity dst.old ≤ vec_capacity dst.new }
 {
-    dst.push(byte).unwrap();
+    dst.push_reserved(byte);
 }
 
 /// How many bytes stand before the first that is `stop`, or all.
@@ -127,6 +127,54 @@ fn to_lf_part(known: &Knowledge, src: &[u8], dst: &mut Vec<u8>, limit: usize) ->
     used
 }
 
+/// Appends the digits of four bytes, in room that was made before.
+fn put_eight(dst: &mut Vec<u8>, a: u8, b: u8, c: u8, d: u8)
+    requires { vec_len dst.old + 8 ≤ vec_capacity dst.old }
+    ensures items { dst.new.items ≡ dst.old.items ++ hex_out (a ∷ b ∷ c ∷ d ∷ []) }
+    ensures len { vec_len dst.new ≡ vec_len dst.old + 8 }
+    ensures capacity { vec_capacity dst.old ≤ vec_capacity dst.new }
+{
+    let digits = [
+        hex_digit(a / 16),
+        hex_digit(a % 16),
+        hex_digit(b / 16),
+        hex_digit(b % 16),
+        hex_digit(c / 16),
+        hex_digit(c % 16),
+        hex_digit(d / 16),
+        hex_digit(d % 16),
+    ];
+    put(dst, &digits);
+}
+
+/// The digits of bytes by fours, up to the last three. It answers of how many.
+fn put_fours(bytes: &[u8], dst: &mut Vec<u8>) -> usize
+    requires { vec_len dst.old + 2 * length bytes.now ≤ vec_capacity dst.old }
+    ensures within { result ≤ length bytes.now }
+    ensures items { dst.new.items ≡ dst.old.items ++ hex_out (take result bytes.now) }
+    ensures len { vec_len dst.new ≡ vec_len dst.old + 2 * result }
+    ensures capacity { vec_capacity dst.old ≤ vec_capacity dst.new }
+{
+    let mut at = 0;
+    while at + 3 < bytes.len() {
+        put_eight(dst, bytes[at], bytes[at + 1], bytes[at + 2], bytes[at + 3]);
+        at += 4;
+    }
+    at
+}
+
+/// The digits of bytes, one byte after the other.
+fn put_digits(bytes: &[u8], dst: &mut Vec<u8>)
+    requires { vec_len dst.old + 2 * length bytes.now ≤ vec_capacity dst.old }
+    ensures items { dst.new.items ≡ dst.old.items ++ hex_out bytes.now }
+    ensures capacity { vec_capacity dst.old ≤ vec_capacity dst.new }
+{
+    for byte in bytes {
+        put_byte(dst, hex_digit(byte / 16));
+        put_byte(dst, hex_digit(byte % 16));
+    }
+}
+
 /// Two digits for each byte, as far as the limit allows.
 fn hex_out_part(src: &[u8], dst: &mut Vec<u8>, limit: usize) -> usize
     requires below { vec_len dst.old < limit }
@@ -136,10 +184,9 @@ fn hex_out_part(src: &[u8], dst: &mut Vec<u8>, limit: usize) -> usize
     ensures capacity { vec_capacity dst.old ≤ vec_capacity dst.new }
 {
     let used = src.len().min((limit - dst.len()).div_ceil(2));
-    for byte in src.split_at(used).0 {
-        put_byte(dst, hex_digit(byte / 16));
-        put_byte(dst, hex_digit(byte % 16));
-    }
+    let (bytes, _) = src.split_at(used);
+    let by_fours = put_fours(bytes, dst);
+    put_digits(bytes.split_at(by_fours).1, dst);
     used
 }
 
@@ -155,6 +202,44 @@ fn held_value(last: Option<u8>) -> u8
     digit_value(byte).unwrap()
 }
 
+/// The byte that the two digits at a place spell, None where one of the two bytes is no digit.
+fn pair_value(src: &[u8], at: usize) -> Option<u8>
+    requires { at + 1 < length src.now }
+    ensures { result ≡ value_of_pair (slice_index src.now at) (slice_index src.now (at + 1)) }
+{
+    let high = digit_value(src[at])?;
+    let low = digit_value(src[at + 1])?;
+    Some(16 * high + low)
+}
+
+/// Pairs of digits by fours as far as the limit allows, up to the first four of which a byte is no digit. It answers how many digits.
+fn pairs_by_fours(known: &Knowledge, src: &[u8], dst: &mut Vec<u8>, limit: usize) -> usize
+    requires even { known.now.used % 2 ≡ 0 }
+    requires below { vec_len dst.old < limit }
+    requires room { HasRoom kind_of.HexIn limit known.now.used known.now.last src.now dst.old.items (vec_capacity dst.old) }
+    ensures pairs { ReadsPairs limit src.now dst.old.items dst.new.items result }
+    ensures capacity { vec_capacity dst.old ≤ vec_capacity dst.new }
+{
+    let mut at = 0;
+    while at + 7 < src.len() && dst.len() < limit && limit - dst.len() >= 4 {
+        let Some(a) = pair_value(src, at) else {
+            return at;
+        };
+        let Some(b) = pair_value(src, at + 2) else {
+            return at;
+        };
+        let Some(c) = pair_value(src, at + 4) else {
+            return at;
+        };
+        let Some(d) = pair_value(src, at + 6) else {
+            return at;
+        };
+        put(dst, &[a, b, c, d]);
+        at += 8;
+    }
+    at
+}
+
 /// Pairs of digits as far as the limit allows, up to the first byte that is no digit. It answers how many digits.
 fn hex_pairs(known: &Knowledge, src: &[u8], dst: &mut Vec<u8>, limit: usize) -> usize
     requires even { known.now.used % 2 ≡ 0 }
@@ -163,15 +248,12 @@ fn hex_pairs(known: &Knowledge, src: &[u8], dst: &mut Vec<u8>, limit: usize) -> 
     ensures pairs { ReadsPairs limit src.now dst.old.items dst.new.items result }
     ensures capacity { vec_capacity dst.old ≤ vec_capacity dst.new }
 {
-    let mut at = 0;
+    let mut at = pairs_by_fours(known, src, dst, limit);
     while at + 1 < src.len() && dst.len() < limit {
-        let Some(high) = digit_value(src[at]) else {
+        let Some(value) = pair_value(src, at) else {
             return at;
         };
-        let Some(low) = digit_value(src[at + 1]) else {
-            return at;
-        };
-        put_byte(dst, 16 * high + low);
+        put_byte(dst, value);
         at += 2;
     }
     at

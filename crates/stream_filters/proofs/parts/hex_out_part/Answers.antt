@@ -1,19 +1,17 @@
-use Rattle.std.proofs.Common.{◌≡◌, ◌/◌, ◌%◌, ◌∷◌, [], slice_index, ◌++◌, ◌∙◌, sym, take, arith, append_assoc}
-use Rattle.filter_model.specs.Filter.{hex_out, hex_digit}
-use Rattle.stream_filters.proofs.PartLemmas.{hex_out-more}
+use Rattle.std.proofs.Common.{◌++◌, ◌∙◌, sym, take, drop, append_assoc}
+use Rattle.std.proofs.lemmas.List.{take-append-drop}
+use Rattle.filter_model.specs.Filter.{hex_out}
+use Rattle.filter_model.proofs.FilterLemmas.{hex_out-append}
 use Rattle.stream_filters.proofs.parts.hex_out_part.Goals as goal
 
-pub loop-byte-preserved : goal.loop-byte-preserved
-loop-byte-preserved c =
+pub returns-clause-items : goal.returns-clause-items
+returns-clause-items c =
+    let old = c.args.dst.now.items in
     let bytes = c.split_at.result.0.now in
-    let i = c.loop-byte.byte-index in
-    let more = hex_out-more bytes i c.loop-byte-test.true in
-    let one = slice_index bytes i in
-    let items =
-    c.put_byte-in-loop-byte.ensures.items
-    ∙ (λ j. c.put_byte.ensures.items j ++ c.hex_digit-in-loop-byte.result ∷ [])
-    ∙ (λ j. (c.loop-byte.invariant.0 j ++ c.hex_digit.ensures j ∷ []) ++ c.hex_digit-in-loop-byte.ensures j ∷ [])
-    ∙ append_assoc (c.args.dst.now.items ++ hex_out (take i bytes)) (hex_digit (one / 16) ∷ []) (hex_digit (one % 16) ∷ [])
-    ∙ append_assoc c.args.dst.now.items (hex_out (take i bytes)) (hex_digit (one / 16) ∷ hex_digit (one % 16) ∷ [])
-    ∙ (λ j. c.args.dst.now.items ++ sym more j) in
-    (items, omega arith, omega arith)
+    let k = c.put_fours-by_fours.result in
+    c.put_digits.ensures.items
+    ∙ (λ i. c.put_fours-by_fours.ensures.items i ++ hex_out (c.split_at-2.ensures.back i))
+    ∙ append_assoc old (hex_out (take k bytes)) (hex_out (drop k bytes))
+    ∙ (λ i. old ++ sym (hex_out-append (take k bytes) (drop k bytes)) i)
+    ∙ (λ i. old ++ hex_out (take-append-drop k bytes i))
+    ∙ (λ i. old ++ hex_out (c.split_at.ensures.front i))

@@ -4,8 +4,8 @@ use Rattle.stream_filters.proofs.parts.hex_pairs.Given as goal
 
 abbrev pub invariant-loop-at : goal.invariant-loop-at
 invariant-loop-at l = record {
-  pairs : ReadsPairs l.limit l.src l.initial.dst.items l.dst.items l.at;
-  capacity : vec_capacity l.initial.dst ≤ vec_capacity l.dst;
+  pairs : ReadsPairs l.limit l.src l.fn.dst.items l.dst.items l.at;
+  capacity : vec_capacity l.fn.dst ≤ vec_capacity l.dst;
 }
 
 abbrev pub decreases-loop-at : goal.decreases-loop-at
