@@ -79,22 +79,22 @@ fn takes_turns(port: &mut RealPort<'_>, table: &mut WantTable) -> [bool; 5] {
     [first, second, again, alone, short]
 }
 
-/// So many bytes come to the Out end, and it is ready to be read.
-fn comes(world: &mut World<'_>, count: usize) -> Result<bool, Fail> {
+/// Eight bytes come to the Out end, and it is ready to be read.
+fn eight_come(world: &mut World<'_>) -> Result<bool, Fail> {
     let Some(far) = &mut world.far else {
         return Err(Fail::new("the far end went"));
     };
-    far.write_all([0; 8].as_slice().split_at(count).0)?;
+    far.write_all(&[0; 8])?;
     Ok(is_marked(&mut world.port, OUT_0, READING))
 }
 
 /// Whether an end takes turns behind one read that came short, and none behind two.
 fn stays_bulky(world: &mut World<'_>, table: &mut WantTable) -> Result<[bool; 4], Fail> {
-    let came = comes(world, 8)?;
+    let came = eight_come(world)?;
     let once = lists(&mut world.port, table, &[READS_OUT], POLLS);
     let other = lists(&mut world.port, table, &[READS_IN], POLLS);
     let read = world.port.read(OUT_0, &mut [0; 16]) == ReadAnswer::Got(8);
-    let twice = comes(world, 8)? && lists(&mut world.port, table, &[READS_IN, READS_OUT], POLLS);
+    let twice = eight_come(world)? && lists(&mut world.port, table, &[READS_IN, READS_OUT], POLLS);
     Ok([came && read, once, other, twice])
 }
 
