@@ -1,19 +1,19 @@
 -- A step of a filter that gives for each byte something of its own, for the proof of one's own.
 use Rattle.std.proofs.Common.{◌≡◌, ℕ, zero, suc, ◌+◌, ◌<◌, ◌≤◌, Bool, true, false, not, ◌==◌, ◌&&◌, ◌||◌, if◌then◌else◌, List, []}
-use Rattle.std.proofs.Common.{◌∷◌, ◌++◌}
-use Rattle.std.proofs.Common.{length, take, Option, Some, None, Ok, refl, sym, ◌∙◌, ap, subst, arith, length-append, append-nil}
+use Rattle.std.proofs.Common.{◌++◌}
+use Rattle.std.proofs.Common.{length, take, Option, None, Ok, refl, sym, ◌∙◌, ap, subst, arith, length-append, append-nil}
 use Rattle.std.specs.Prelude.{is_some, nat_le, nat_lt, ◌^◌}
 use Rattle.std.specs.List.{flat_map}
 use Rattle.std.proofs.lemmas.Bool.Decides.{nat_tests}
 use Rattle.ev_types.specs.declared.filter.Mode.{Mode}
-use Rattle.filter_model.specs.Filter.{Filter, met, holds}
+use Rattle.filter_model.specs.Filter.{Filter, met}
 use Rattle.filter_model.specs.FilterLaws.{more, more_at_end}
 use Rattle.filter_model.specs.Stopping.{first_from, is_over}
 use Rattle.filter_model.proofs.RunningLemmas.{holds-none}
 use Rattle.stream_filters.specs.declared.stream_filter.Step.{Step}
 use Rattle.stream_filters.specs.StepAnswers.{is_last}
 use Rattle.stream_filters.specs.Bytewise.{bytewise, more-bytewise, GivesBytes}
-use Rattle.stream_filters.specs.StreamSteps.{Reached, held_after, must_end, use_count, Taken, taking, taken, Tells, MakesStep}
+use Rattle.stream_filters.specs.StreamSteps.{Reached, held_after, must_end, use_count, taking, taken, Tells, MakesStep}
 
 -- the first place at which a test holds
 pub first-at : (stop : ℕ → Bool) (n left m : ℕ) → m ≤ left → ((j : ℕ) → j < m → stop (n + j) ≡ false) → (m < left → stop (n + m) ≡ true) →

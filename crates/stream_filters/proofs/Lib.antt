@@ -7,7 +7,6 @@ pub mod InPlaceLemmas
 pub mod ShiftLemmas
 pub mod HouseSteps
 pub mod StreamShift
-pub mod DigitLemmas
-pub mod FourLemmas
 pub mod PairLemmas
+pub mod BlockLemmas
 pub mod BytewiseLemmas

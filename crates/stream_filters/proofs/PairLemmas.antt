@@ -4,9 +4,11 @@ use Rattle.std.proofs.Common.{◌∷◌, ◌++◌}
 use Rattle.std.proofs.Common.{length, take, drop, Option, Some, None, refl, sym, ◌∙◌, ap, subst, arith, length-append, append_assoc}
 use Rattle.std.proofs.Common.{append-nil}
 use Rattle.std.specs.Prelude.{slice_index, unwrap_or}
-use Rattle.std.specs.List.{last_or}
+use Rattle.std.specs.List.{last_or, list_all}
+use Rattle.std.proofs.lemmas.Bool.{and_parts}
 use Rattle.std.proofs.lemmas.Bool.Decides.{nat_tests}
-use Rattle.std.proofs.lemmas.List.{length-take-le, take_more, take-append-drop}
+use Rattle.std.proofs.lemmas.List.{length-drop, length-take-le, take_more, take-append-drop}
+use Rattle.std.proofs.Math.Seq.{take-add}
 use Rattle.ev_types.specs.declared.filter.FilterKind.TheVariants as kind
 use Rattle.filter_model.specs.Filter.{hex_in, is_hex, hex_value}
 use Rattle.filter_model.specs.FilterRun.{Ran, run, adds}
@@ -33,12 +35,35 @@ pairs-push : {m : ℕ} {xs : List ℕ} (x y : ℕ) → ArePairs m xs → is_hex 
 pairs-push x y ArePairs.no_pairs a b = ArePairs.pair a b ArePairs.no_pairs
 pairs-push x y (ArePairs.pair c d rest) a b = ArePairs.pair c d (pairs-push x y rest a b)
 
-hex_in-push : {m : ℕ} {xs : List ℕ} (x y : ℕ) → ArePairs m xs → is_hex x ≡ true → is_hex y ≡ true →
+pub hex_in-push : {m : ℕ} {xs : List ℕ} (x y : ℕ) → ArePairs m xs → is_hex x ≡ true → is_hex y ≡ true →
     hex_in (xs ++ x ∷ y ∷ []) ≡ hex_in xs ++ value_of x y ∷ []
 hex_in-push x y ArePairs.no_pairs a b = hex_in-pair x y [] a b
 hex_in-push x y (ArePairs.pair {x = p} {y = q} {xs = xs} c d rest) a b =
     hex_in-pair p q (xs ++ x ∷ y ∷ []) c d ∙ ap (λ z. value_of p q ∷ z) (hex_in-push x y rest a b)
     ∙ ap (λ z. z ++ value_of x y ∷ []) (sym (hex_in-pair p q xs c d))
+
+pairs-append : {m n : ℕ} {xs ys : List ℕ} → ArePairs m xs → ArePairs n ys → ArePairs (m + n) (xs ++ ys)
+pairs-append {n = n} {ys = ys} ArePairs.no_pairs q = subst (λ k. ArePairs k ys) (let e : n ≡ 0 + n = omega arith in e) q
+pairs-append {n = n} {ys = ys} (ArePairs.pair {m = m} {x = x} {y = y} {xs = xs} a b rest) q =
+    let e : suc (m + n) ≡ suc m + n = omega arith in
+    subst (λ k. ArePairs k (x ∷ y ∷ (xs ++ ys))) e (ArePairs.pair a b (pairs-append rest q))
+
+hex_in-append : {m : ℕ} {xs : List ℕ} (ys : List ℕ) → ArePairs m xs → hex_in (xs ++ ys) ≡ hex_in xs ++ hex_in ys
+hex_in-append ys ArePairs.no_pairs = refl
+hex_in-append ys (ArePairs.pair {x = x} {y = y} {xs = xs} a b rest) =
+    hex_in-pair x y (xs ++ ys) a b ∙ ap (λ z. value_of x y ∷ z) (hex_in-append ys rest)
+    ∙ ap (λ z. z ++ hex_in ys) (sym (hex_in-pair x y xs a b))
+
+-- digits of an even number are pairs
+pub all_pairs : (n : ℕ) (xs : List ℕ) → length xs ≡ 2 * n → list_all is_hex xs ≡ true → ArePairs n xs
+all_pairs zero [] many all = ArePairs.no_pairs
+all_pairs zero (x ∷ xs) many all = absurd (omega (arith, many))
+all_pairs (suc n) [] many all = absurd (omega (arith, many))
+all_pairs (suc n) (x ∷ []) many all = absurd (omega (arith, many))
+all_pairs (suc n) (x ∷ y ∷ xs) many all =
+    let first = and_parts (is_hex x) (is_hex y && list_all is_hex xs) all in
+    let second = and_parts (is_hex y) (list_all is_hex xs) first.1 in
+    ArePairs.pair first.0 second.0 (all_pairs n xs (omega (arith, many)) second.1)
 
 -- the last byte of pairs of digits is a digit
 last-pairs : {m : ℕ} {xs : List ℕ} (last : Option ℕ) → IsDigitLast kind.HexIn last → ArePairs m xs
@@ -163,6 +188,52 @@ module _ (limit count : ℕ) (last : Option ℕ) (src old : List ℕ) (even : co
         let g = length-hex_in r.digits in
         omega (arith, e, h, f, g, room, length-append (hex_in (take (used + 2) src)) rest.made, length-append old (hex_in (take used src)))
 
+  -- so many pairs more, with the room that they need
+  module _ (new : List ℕ) (used capacity n : ℕ) (r : ReadsPairs limit src old new used) (within : used + 2 * n ≤ length src)
+      (below : length new + n ≤ limit) (all : list_all is_hex (take (2 * n) (drop used src)) ≡ true) where
+    abbrev pub more : List ℕ
+    more = take (2 * n) (drop used src)
+
+    whole : take (used + 2 * n) src ≡ take used src ++ more
+    whole = take-add used (2 * n) src
+
+    are_more : ArePairs n more
+    are_more = all_pairs n more (length-take-le (2 * n) (drop used src) (omega (arith, within, length-drop used src))) all
+
+    in_all : ArePairs (r.pairs + n) (take (used + 2 * n) src)
+    in_all = subst (ArePairs (r.pairs + n)) (sym whole) (pairs-append r.digits are_more)
+
+    under : length old + (r.pairs + n) ≤ limit
+    under =
+        let f = ap length r.filled in
+        let h = length-hex_in r.digits in
+        omega (arith, f, h, below, length-append old (hex_in (take used src)))
+
+    pub block-more : ReadsPairs limit src old (new ++ hex_in more) (used + 2 * n)
+    block-more = record {
+      pairs = r.pairs + n;
+      digits = in_all;
+      within = within;
+      below = under;
+      filled =
+          ap (λ z. z ++ hex_in more) r.filled
+          ∙ append_assoc old (hex_in (take used src)) (hex_in more)
+          ∙ ap (λ z. old ++ z) (sym (hex_in-append more r.digits))
+          ∙ ap (λ z. old ++ hex_in z) (sym whole);
+    }
+
+    pub block-room : HasRoom kind.HexIn limit count last src old capacity → length new + n ≤ capacity
+    block-room room =
+        let rest : Ran = run kind.HexIn limit (length old + (r.pairs + n)) (count + (used + 2 * n))
+        (last_or last (take (used + 2 * n) src)) (drop (used + 2 * n) src) in
+        let e = ap (λ (z : Ran). length z.made)
+        (run-front limit (length old) count last src (used + 2 * n) within in_all under even) in
+        let h = length-hex_in in_all in
+        let f = ap length r.filled in
+        let g = length-hex_in r.digits in
+        let l = length-append old (hex_in (take used src)) in
+        omega (arith, e, h, f, g, l, room, length-append (hex_in (take (used + 2 * n) src)) rest.made)
+
 pub pairs-none : (limit : ℕ) (src old : List ℕ) → length old ≤ limit → ReadsPairs limit src old old 0
 pairs-none limit src old below = record {
   pairs = 0;
@@ -186,48 +257,3 @@ pair-cases x y v e = go (is_hex x) (is_hex y) refl refl e
     go true true p q e = record { first = p; second = q; value = (cc) }
     go true false p q e = absurd (cc)
     go false b p q e = absurd (cc)
-
--- four pairs more, with the room that they need
-module _ (limit count : ℕ) (last : Option ℕ) (src old : List ℕ) (even : count % 2 ≡ 0) (new : List ℕ) (used capacity : ℕ)
-    (r : ReadsPairs limit src old new used) {a b c d : ℕ}
-    (p : IsPair (slice_index src used) (slice_index src (used + 1)) a)
-    (q : IsPair (slice_index src (used + 2)) (slice_index src (used + 2 + 1)) b)
-    (s : IsPair (slice_index src (used + 4)) (slice_index src (used + 4 + 1)) c)
-    (t : IsPair (slice_index src (used + 6)) (slice_index src (used + 6 + 1)) d)
-    (within : used + 7 < length src) (below : length new + 4 ≤ limit) where
-  one : {n x y v : ℕ} (z : List ℕ) → ReadsPairs limit src old z n → slice_index src n ≡ x → slice_index src (n + 1) ≡ y → IsPair x y v
-      → n + 1 < length src → length z < limit → ReadsPairs limit src old (z ++ v ∷ []) (n + 2)
-  one {n} {x} {y} z reads first second pair inside short =
-      subst (λ w. ReadsPairs limit src old (z ++ w ∷ []) (n + 2)) (sym pair.value)
-      (pair-more limit count last src old even z n capacity x y reads first second pair.first pair.second inside short)
-
-  after-one : ReadsPairs limit src old (new ++ a ∷ []) (used + 2)
-  after-one = one new r refl refl p (omega (arith, within)) (omega (arith, below))
-
-  after-two : ReadsPairs limit src old (new ++ a ∷ b ∷ []) (used + 4)
-  after-two =
-      let m : used + 2 + 2 ≡ used + 4 = omega arith in
-      subst (λ k. ReadsPairs limit src old (new ++ a ∷ b ∷ []) k) m (subst (λ z. ReadsPairs limit src old z (used + 2 + 2))
-      (append_assoc new (a ∷ []) (b ∷ [])) (one (new ++ a ∷ []) after-one refl refl q (omega (arith, within))
-      (omega (arith, below, length-append new (a ∷ [])))))
-
-  after-three : ReadsPairs limit src old (new ++ a ∷ b ∷ c ∷ []) (used + 6)
-  after-three =
-      let m : used + 4 + 2 ≡ used + 6 = omega arith in
-      subst (λ k. ReadsPairs limit src old (new ++ a ∷ b ∷ c ∷ []) k) m (subst (λ z. ReadsPairs limit src old z (used + 4 + 2))
-      (append_assoc new (a ∷ b ∷ []) (c ∷ [])) (one (new ++ a ∷ b ∷ []) after-two refl refl s (omega (arith, within))
-      (omega (arith, below, length-append new (a ∷ b ∷ [])))))
-
-  pub four-more : ReadsPairs limit src old (new ++ a ∷ b ∷ c ∷ d ∷ []) (used + 8)
-  four-more =
-      let m : used + 6 + 2 ≡ used + 8 = omega arith in
-      subst (λ k. ReadsPairs limit src old (new ++ a ∷ b ∷ c ∷ d ∷ []) k) m (subst (λ z. ReadsPairs limit src old z (used + 6 + 2))
-      (append_assoc new (a ∷ b ∷ c ∷ []) (d ∷ [])) (one (new ++ a ∷ b ∷ c ∷ []) after-three refl refl t
-      (omega (arith, within)) (omega (arith, below, length-append new (a ∷ b ∷ c ∷ [])))))
-
-  pub four-room : HasRoom kind.HexIn limit count last src old capacity → length new + 4 ≤ capacity
-  four-room room =
-      let last_of = pair-room limit count last src old even (new ++ a ∷ b ∷ c ∷ []) (used + 6) capacity (slice_index src (used + 6))
-      (slice_index src (used + 6 + 1)) after-three refl refl t.first t.second (omega (arith, within))
-      (omega (arith, below, length-append new (a ∷ b ∷ c ∷ []))) room in
-      omega (arith, last_of, length-append new (a ∷ b ∷ c ∷ []))

@@ -1,16 +1,18 @@
 -- The parts of runs.
 use Rattle.std.proofs.Common.{◌≡◌, ℕ, zero, suc, ◌+◌, ◌*◌, ◌/◌, ◌%◌, ◌<◌, ◌≤◌, Bool, true, false, not, ◌||◌, if◌then◌else◌, List, [], ◌∷◌}
-use Rattle.std.proofs.Common.{◌++◌, length, take, drop, Option, Some, None, refl, sym, ◌∙◌, ap, arith, length-append}
-use Rattle.std.specs.Prelude.{nat_le, slice_index}
+use Rattle.std.proofs.Common.{◌++◌, length, take, drop, Option, Some, None, refl, sym, ◌∙◌, ap, arith, append_assoc, length-append}
+use Rattle.std.specs.Prelude.{◌≢◌, nat_le, slice_index}
 use Rattle.std.specs.List.{last_or}
 use Rattle.std.proofs.lemmas.Bool.Decides.{nat_tests}
-use Rattle.std.proofs.lemmas.List.{length-take-le, take_more}
+use Rattle.std.proofs.lemmas.List.{length-drop, length-take-le, take_more, get_or-drop, drop-drop}
+use Rattle.std.proofs.Math.Seq.{take-add}
 use Rattle.ev_types.specs.declared.filter.FilterKind.{FilterKind}
 use Rattle.ev_types.specs.declared.filter.FilterKind.TheVariants as kind
 use Rattle.filter_model.specs.Filter.{hex_out, hex_digit, is_hex, hex_value}
 use Rattle.filter_model.specs.FilterRun.{Ran, goes_on, run, adds, is_bad_byte}
 use Rattle.filter_model.specs.FilterCuts.{joined}
 use Rattle.filter_model.proofs.FilterLemmas.{hex_out-append}
+use Rattle.filter_model.proofs.ListLemmas.{last_or-append}
 use Rattle.stream_filters.specs.Parts.{AppendsPart, HasRoom}
 use Rattle.stream_filters.proofs.PlainLemmas.{IsPlain, run-plain}
 
@@ -80,6 +82,71 @@ plain-room k limit count last src old used capacity within below plain room =
     let t = length-take-le used src within in
     omega (arith, e, length-append (take used src) rest.made, t, room)
 
+-- plain bytes and one more behind them
+module _ (k : FilterKind) (limit count : ℕ) (last : Option ℕ) (src old mid : List ℕ) (used x : ℕ) (within : used < length src)
+    (is : slice_index src used ≡ x) (below : length old + used < limit) (plain : IsPlain k last (take used src))
+    (good : is_bad_byte k x ≡ false) (put : mid ≡ old ++ take used src) where
+  front : length (take used src) ≡ used
+  front = length-take-le used src (omega (arith, within))
+
+  reached : length mid ≡ length old + used
+  reached = ap length put ∙ length-append old (take used src) ∙ ap (λ m. length old + m) front
+
+  to_rest : run k limit (length old) count last src ≡ joined (record { used = used; made = take used src })
+      (run k limit (length mid) (count + used) (last_or last (take used src)) (drop used src))
+  to_rest =
+      run-plain k limit (length old) count last src used (omega (arith, within)) (omega (arith, below)) plain
+      ∙ (λ i. joined (record { used = used; made = take used src })
+      (run k limit (sym reached i) (count + used) (last_or last (take used src)) (drop used src)))
+
+  first_is : slice_index (drop used src) 0 ≡ x
+  first_is = get_or-drop used src 0 0 ∙ (let e : used + 0 ≡ used = omega arith in ap (slice_index src) e) ∙ is
+
+  some_left : 0 < length (drop used src)
+  some_left = omega (arith, within, length-drop used src)
+
+  under_limit : length mid < limit
+  under_limit = omega (arith, reached, below)
+
+  pub line-part : (new : List ℕ) → new ≡ mid ++ adds k (count + used) (last_or last (take used src)) x
+      → AppendsPart k limit count last src old new (used + 1)
+  line-part new filled =
+      let a : List ℕ = adds k (count + used) (last_or last (take used src)) x in
+      let one = byte-part k limit (count + used) (last_or last (take used src)) (drop used src) mid new x some_left first_is under_limit
+      good filled in
+      let more : take used src ++ take 1 (drop used src) ≡ take (used + 1) src = sym (take-add used 1 src) in
+      let r : Ran = run k limit (length new) (count + used + 1) (last_or (last_or last (take used src)) (take 1 (drop used src)))
+      (drop 1 (drop used src)) in
+      let c : count + used + 1 ≡ count + (used + 1) = omega arith in
+      let n : used + (1 + r.used) ≡ used + 1 + r.used = omega arith in
+      let l : last_or (last_or last (take used src)) (take 1 (drop used src)) ≡ last_or last (take (used + 1) src) =
+      sym (last_or-append last (take used src) (take 1 (drop used src))) ∙ ap (last_or last) more in
+      record {
+        made = take used src ++ one.made;
+        filled = one.filled ∙ (λ i. put i ++ one.made) ∙ append_assoc old (take used src) one.made;
+        within = omega (arith, within);
+        goes =
+            to_rest ∙ (λ i. joined (record { used = used; made = take used src }) (one.goes i))
+            ∙ (λ i. record { used = n i; made = sym (append_assoc (take used src) one.made r.made) i })
+            ∙ (λ i. joined (record { used = used + 1; made = take used src ++ one.made })
+            (run k limit (length new) (c i) (l i) (drop-drop 1 used src i)));
+        stops = λ none. absurd (omega (arith, none));
+      }
+
+  pub line-room : (capacity : ℕ) → HasRoom k limit count last src old capacity
+      → length mid + length (adds k (count + used) (last_or last (take used src)) x) ≤ capacity
+  line-room capacity room =
+      let left_over : Ran = run k limit (length mid) (count + used) (last_or last (take used src)) (drop used src) in
+      let e = ap (λ (r : Ran). length r.made) to_rest in
+      byte-room k limit (count + used) (last_or last (take used src)) (drop used src) mid x capacity some_left first_is under_limit good
+      (omega (arith, e, length-append (take used src) left_over.made, room, reached, front))
+
+-- where a byte isn't the one at which a piece stops, the piece has some
+pub not_at_stop : (stop used most : ℕ) (src : List ℕ) → 0 < length src → 0 < most → slice_index src 0 ≢ stop →
+    (used < length src → used < most → slice_index src used ≡ stop) → 0 < used
+not_at_stop stop zero most src some room other at = absurd (other (at some room))
+not_at_stop stop (suc used) most src some room other at = omega arith
+
 -- a byte whose digit value is known is good
 pub record IsDigit (x value_of : ℕ) : Type 0 where
   pub value : value_of ≡ hex_value x
@@ -118,7 +185,7 @@ run-hex_out limit n count last (x ∷ src) (suc used) there room =
     (run kind.HexOut limit (a i) (b i) (last_or (Some x) (take used src)) (drop used src))))
     ∙ (λ i. record { used = c i; made = hex_digit (x / 16) ∷ hex_digit (x % 16) ∷ (hex_out (take used src) ++ r.made) })
 
-length-hex_out : (xs : List ℕ) → length (hex_out xs) ≡ 2 * length xs
+pub length-hex_out : (xs : List ℕ) → length (hex_out xs) ≡ 2 * length xs
 length-hex_out [] = refl
 length-hex_out (x ∷ xs) = let e = length-hex_out xs in omega (arith, e)
 

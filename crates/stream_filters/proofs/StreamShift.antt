@@ -1,5 +1,5 @@
 -- A step of any filter into a target that holds bytes is the step into an empty one, with what the limit leaves.
-use Rattle.std.proofs.Common.{◌≡◌, ℕ, ◌+◌, ◌-◌, Bool, ◌==◌, ◌&&◌, ◌||◌, if◌then◌else◌, List, [], ◌++◌, length, take, refl, ◌∙◌, ap, arith}
+use Rattle.std.proofs.Common.{◌≡◌, ℕ, ◌+◌, ◌-◌, Bool, ◌==◌, ◌&&◌, ◌||◌, if◌then◌else◌, List, [], ◌++◌, length, take, ◌∙◌, ap, arith}
 use Rattle.std.specs.Prelude.{nat_le, nat_lt, is_some}
 use Rattle.filter_model.specs.Filter.{Filter, met}
 use Rattle.filter_model.specs.FilterLaws.{more, more_at_end}

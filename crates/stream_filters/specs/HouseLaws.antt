@@ -1,5 +1,5 @@
 -- The five filters obey the laws of filters of a byte stream. An impl takes the proofs of its laws from `specs/`.
-use Rattle.std.proofs.Common.{◌≡◌, ◌≤◌, ℕ, List, length, drop, sym, ◌∙◌, subst}
+use Rattle.std.proofs.Common.{◌≤◌, ℕ, List, length, drop, sym, ◌∙◌, subst}
 use Rattle.std.proofs.Math.Arith.{le-zero}
 use Rattle.std.proofs.Math.Nat.{sub-le, le_of_sub-eq-zero}
 use Rattle.filter_model.specs.Filter.{filter_of}

@@ -1,7 +1,7 @@
 -- The parts in which the code makes a run.
-use Rattle.std.specs.Prelude.{◌≡◌, ℕ, suc, ◌+◌, ◌*◌, ◌≤◌, ◌&&◌, true, if◌then◌else◌, Option, Some, None}
+use Rattle.std.specs.Prelude.{◌≡◌, ℕ, suc, ◌+◌, ◌*◌, ◌≤◌, ◌⊎◌, ◌&&◌, true, false, if◌then◌else◌, Option, Some, None, slice_index}
 use Rattle.std.specs.Prelude.{List, [], ◌∷◌, ◌++◌, length, take, drop}
-use Rattle.std.specs.List.{last_or}
+use Rattle.std.specs.List.{last_or, list_all}
 use Rattle.ev_types.specs.declared.filter.FilterKind.{FilterKind}
 use Rattle.filter_model.specs.Filter.{is_hex, hex_in, hex_value}
 use Rattle.filter_model.specs.FilterRun.{run, nothing_ran}
@@ -24,6 +24,10 @@ pub data ArePairs : ℕ → List ℕ → Type 0 where
   no_pairs : ArePairs 0 []
   pair : {m x y : ℕ} {xs : List ℕ} → is_hex x ≡ true → is_hex y ≡ true → ArePairs m xs → ArePairs (suc m) (x ∷ y ∷ xs)
 
+-- the number that a digit stands for, 255 for a byte that is none
+abbrev pub value_or_none : ℕ → ℕ
+value_or_none x = if is_hex x then hex_value x else 255
+
 -- the byte that two digits spell
 abbrev pub value_of_pair : ℕ → ℕ → Option ℕ
 value_of_pair x y = if is_hex x && is_hex y then Some (16 * hex_value x + hex_value y) else None
@@ -35,6 +39,16 @@ pub record ReadsPairs (limit : ℕ) (src old new : List ℕ) (used : ℕ) : Type
   pub within : used ≤ length src
   pub below : length old + pairs ≤ limit
   pub filled : new ≡ old ++ hex_in (take used src)
+
+-- No pair more can be read: fewer than two bytes are left, or the target is at the limit, or one of the next two bytes is no digit.
+abbrev pub PairsStop : ℕ → List ℕ → List ℕ → ℕ → Type 0
+PairsStop limit src new used =
+    (length src ≤ used + 1) ⊎ (limit ≤ length new) ⊎ (value_of_pair (slice_index src used) (slice_index src (used + 1)) ≡ None)
+
+-- No block more can be read: the same, but that one of the bytes of the next so many pairs is no digit.
+abbrev pub BlocksStop : ℕ → ℕ → List ℕ → List ℕ → ℕ → Type 0
+BlocksStop most limit src new used =
+    (length src ≤ used + 1) ⊎ (limit ≤ length new) ⊎ ((n : ℕ) × (n ≤ most) × (list_all is_hex (take (2 * n) (drop used src)) ≡ false))
 
 -- a target that holds these bytes has room for what the run over src makes
 abbrev pub HasRoom : FilterKind → ℕ → ℕ → Option ℕ → List ℕ → List ℕ → ℕ → Type 0

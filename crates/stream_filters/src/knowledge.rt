@@ -28,12 +28,19 @@ impl Knowledge {
         }
     }
 
+    /// The last byte that it will have used behind these.
+    pub(crate) fn last_behind(&self, bytes: &[u8]) -> Option<u8>
+        ensures { result ≡ last_or self.now.last bytes.now }
+    {
+        bytes.last().copied().or(self.last)
+    }
+
     /// Takes note of bytes that were used.
     pub(crate) fn use_bytes(&mut self, bytes: &[u8])
         requires { self.old.used + length bytes.now < 2 ^ 64 }
         ensures { self.new ≡ record self.old { used = self.old.used + length bytes.now; last = last_or self.old.last bytes.now } }
     {
         self.used += bytes.len() as u64;
-        self.last = bytes.last().copied().or(self.last);
+        self.last = self.last_behind(bytes);
     }
 }

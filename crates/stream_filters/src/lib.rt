@@ -7,8 +7,10 @@ mod any;
 mod digits;
 mod fault;
 mod filters;
+mod hex_parts;
 mod knowledge;
 mod parts;
+mod put;
 mod step;
 mod stream_filter;
 

@@ -12,7 +12,8 @@ ghost use Rattle.stream_filters.specs.StepAnswers.{most_by_step, Answers, Answer
 
 use crate::fault::FilterFault;
 use crate::knowledge::Knowledge;
-use crate::parts::{part, put};
+use crate::parts::part;
+use crate::put::put;
 use crate::stream_filter::Step;
 use ev_types::{FilterKind, Mode};
 

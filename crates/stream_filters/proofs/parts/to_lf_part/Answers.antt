@@ -1,7 +1,8 @@
-use Rattle.std.proofs.Common.{◌++◌, ◌∙◌, sym, ap, take, arith}
+use Rattle.std.proofs.Common.{◌++◌, ◌-◌, ◌∙◌, sym, ap, take, arith}
+use Rattle.filter_model.specs.Filter.{CR}
 use Rattle.ev_types.specs.declared.filter.FilterKind.TheVariants as kind
 use Rattle.stream_filters.proofs.PlainLemmas.{plain-lf, is_cr-eq}
-use Rattle.stream_filters.proofs.PartLemmas.{plain-part, plain-room}
+use Rattle.stream_filters.proofs.PartLemmas.{plain-part, plain-room, not_at_stop}
 use Rattle.stream_filters.proofs.parts.to_lf_part.Goals as goal
 
 pub put-requires : goal.put-requires
@@ -25,4 +26,5 @@ returns-clause-part c =
     let filled = c.put.ensures.items ∙ ap (λ z. old.items ++ z) c.split_at.ensures.front in
     plain-part kind.ToLf c.args.limit c.args.known.now.used last src old.items _ used
     c.length_before-used.ensures.within (omega arith)
-    (c.length_before-used.ensures.some c.requires.some (omega arith) c.if-src-eq-CR.false) plain filled
+    (not_at_stop CR used (c.args.limit - c.len.result) src c.requires.some (omega arith) c.if-src-eq-CR.false
+    c.length_before-used.ensures.stop) plain filled

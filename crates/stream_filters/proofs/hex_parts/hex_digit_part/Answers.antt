@@ -5,7 +5,7 @@ use Rattle.ev_types.specs.declared.filter.FilterKind.TheVariants as kind
 use Rattle.filter_model.specs.Filter.{hex_value}
 use Rattle.stream_filters.proofs.PlainLemmas.{differs}
 use Rattle.stream_filters.proofs.PartLemmas.{byte-part, digit-cases}
-use Rattle.stream_filters.proofs.parts.hex_digit_part.Goals as goal
+use Rattle.stream_filters.proofs.hex_parts.hex_digit_part.Goals as goal
 
 pub returns-then-known-eq1-clause-part : goal.returns-then-known-eq1-clause-part
 returns-then-known-eq1-clause-part c =

@@ -1,10 +1,10 @@
 use Rattle.std.proofs.Common.{◌+◌, ◌++◌, ◌∷◌, [], ◌∙◌, sym, subst, refl, slice_index, arith, vec_capacity}
 use Rattle.stream_filters.specs.Parts.{ReadsPairs}
 use Rattle.stream_filters.proofs.PairLemmas.{pair-cases, pair-more, pair-room}
-use Rattle.stream_filters.proofs.parts.hex_pairs.Goals as goal
+use Rattle.stream_filters.proofs.hex_parts.hex_pairs.Goals as goal
 
 pub loop-at-init : goal.loop-at-init
-loop-at-init c = record { pairs = c.pairs_by_fours-at.ensures.pairs; capacity = c.pairs_by_fours-at.ensures.capacity }
+loop-at-init c = record { pairs = c.pairs_by_blocks-at.ensures.pairs; capacity = c.pairs_by_blocks-at.ensures.capacity }
 
 pub put_byte-requires : goal.put_byte-requires
 put_byte-requires c =

@@ -1,6 +1,6 @@
 use Rattle.std.proofs.Common.{◌≤◌, ◌-◌, length, vec_capacity}
 use Rattle.stream_filters.specs.Parts.{ReadsPairs}
-use Rattle.stream_filters.proofs.parts.hex_pairs.Given as goal
+use Rattle.stream_filters.proofs.hex_parts.hex_pairs.Given as goal
 
 abbrev pub invariant-loop-at : goal.invariant-loop-at
 invariant-loop-at l = record {

@@ -1,11 +1,12 @@
-use Rattle.std.proofs.Common.{◌≤◌, ◌-◌, length, vec_capacity}
+use Rattle.std.proofs.Common.{◌≡◌, ◌≤◌, ◌-◌, length, vec_capacity}
 use Rattle.stream_filters.specs.Parts.{ReadsPairs}
-use Rattle.stream_filters.proofs.parts.pairs_by_fours.Given as goal
+use Rattle.stream_filters.proofs.hex_parts.pairs_by_blocks.Given as goal
 
 abbrev pub invariant-loop-at : goal.invariant-loop-at
 invariant-loop-at l = record {
   pairs : ReadsPairs l.limit l.src l.initial.dst.items l.dst.items l.at;
   capacity : vec_capacity l.initial.dst ≤ vec_capacity l.dst;
+  block : length l.block ≡ 128;
 }
 
 abbrev pub decreases-loop-at : goal.decreases-loop-at

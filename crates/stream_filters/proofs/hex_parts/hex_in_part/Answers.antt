@@ -1,6 +1,6 @@
 use Rattle.std.proofs.Common.{arith}
 use Rattle.stream_filters.proofs.PairLemmas.{pairs-part, pairs-last}
-use Rattle.stream_filters.proofs.parts.hex_in_part.Goals as goal
+use Rattle.stream_filters.proofs.hex_parts.hex_in_part.Goals as goal
 
 pub returns-then-used-gt0-clause-part : goal.returns-then-used-gt0-clause-part
 returns-then-used-gt0-clause-part c =
