@@ -45,8 +45,8 @@ TurnWent takes old new = TurnBy (nat_lt 0 old.left && takes old.who) takes old n
 abbrev pub other_end : ℕ → ℕ
 other_end n = if n % 2 == 0 then n + 1 else n - 1
 
--- Whether the peer of the end whose turn it is drains: from a write that came short, through each poll at which something waits for it
--- and the turn stays.
+-- Whether the peer of the end whose turn it is drains, where that end is bulky: from a write that came short, through each poll at which
+-- something waits for it and the turn stays.
 abbrev pub drains_now : WantsValue → List (Option End) → Turn → ℕ → Bool
 drains_now t ends old who =
     is_bulky (slice_index_or ends who None)

@@ -159,9 +159,10 @@ impl<'a, R: Net + Clock + AllocGlobal> MioPort<'a, R> {
 ///   is marked. A wait that a signal interrupts is ready for nothing. A timeout is in milliseconds, `None` is for ever, and
 ///   more than 24 days are cut to that.
 /// - `poll_table` marks what `poll` would mark of the same wants, but of the bulky ends, those one of whose last two reads filled
-///   its room, at most one for reading, in turns of 64 polls, and from a write to its peer that came short not before all
-///   that waits for the peer was given, while it can be written. It waits as long. It doesn't go over the wants: it joins the
-///   table's sets of numbers and the port's, so what is wanted and isn't ready costs one word in 64 numbers.
+///   its room, at most one for reading, in turns of 64 polls. While the turn stays, that end isn't read from a write to its
+///   peer that came short until a poll finds that nothing waits for the peer, but where the peer can't be written. It waits
+///   as long. It doesn't go over the wants: it joins the table's sets of numbers and the port's, so what is wanted and isn't
+///   ready costs one word in 64 numbers.
 /// - `accept` makes both ends with `TCP_NODELAY`. The Out end is never connected yet: its check decides, also where its
 ///   connection couldn't be begun. `NoMemory` comes before anything is accepted. `NotYet` comes for a link that was
 ///   accepted before, where none waits, where one went before it was taken, and where the system is short of
