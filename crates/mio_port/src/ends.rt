@@ -126,6 +126,17 @@ fn close_at(place: &mut Option<End>)
 
 // The sets of the numbers that are ready
 
+// Puts a number into a set or takes it out, where it isn't so already, which costs one look.
+fn set_to(set: &mut NumberSet, number: usize, is_in: bool)
+    requires { number < set.old.len }
+    ensures len { set.new.len ≡ set.old.len }
+    ensures has { (n : ℕ) → set.new.has n ≡ (if n == number then is_in else set.old.has n) }
+{
+    if set.contains(number) != is_in {
+        set.put(number, is_in);
+    }
+}
+
 // An end may have changed: each set has its number where the end is ready now.
 fn keep_up(
     ends: &[Option<End>],
@@ -151,9 +162,9 @@ fn keep_up(
         Some(Some(end)) => (end.is_read_ready(), end.is_bulky(), end.is_write_ready()),
         _ => (false, false, false),
     };
-    prompt.put(number, can_read && !is_bulky);
-    bulky.put(number, can_read && is_bulky);
-    writable.put(number, can_write);
+    set_to(prompt, number, can_read && !is_bulky);
+    set_to(bulky, number, can_read && is_bulky);
+    set_to(writable, number, can_write);
 }
 
 // The last write to the end with this number took less than it was given, or would have blocked.
