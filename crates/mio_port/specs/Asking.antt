@@ -19,11 +19,12 @@ pub record WasPassed (was : Kernel) (now_kernel : Option Kernel) (old new : List
   pub listener : now_ready ≡ ready
   pub succeeded : worked ≡ true
 
--- It was asked, for at most so long; where that worked its reports tell what is new, and else nothing is. The descriptor that is kept
--- stays.
+-- It was asked, for at most so long, and it says whether that worked; where it did its reports tell what is new, and else nothing is. The
+-- descriptor that is kept stays.
 pub record WasAsked (longest : Option ℕ) (was kernel : Kernel) (old new : List (Option End)) (ready now_ready worked : Bool) : Type 0 where
   pub skipped : kernel.skipped ≡ 0
   pub most : kernel.most ≡ longest
+  pub answered : kernel.worked ≡ worked
   pub spare : kernel.spare ≡ was.spare
   pub told : worked ≡ true → AsReported (items kernel.events) old new ready now_ready
   pub untold : worked ≡ false → (new ≡ old) × (now_ready ≡ ready)

@@ -1,5 +1,5 @@
 // The kernel's reports: what is watched, how often it is asked, and what it told.
-ghost use Rattle.std.specs.Prelude.{◌≡◌, ◌<◌, ◌-◌, ◌^◌, ◌∷◌, [], true, false, is_some, IfOk, OnOk};
+ghost use Rattle.std.specs.Prelude.{◌≡◌, ◌<◌, ◌-◌, ◌^◌, ◌∷◌, [], true, false, is_some, is_ok, IfOk, OnOk};
 ghost use Rattle.mio_port.specs.OneEnd.{fresh};
 ghost use Rattle.mio_port.specs.EndLeft.{AllHeard};
 ghost use Rattle.mio_port.specs.EndPlaces.{CountsStay};
@@ -29,9 +29,8 @@ pub(crate) const LOOK_EVERY: u32 = 16;
 // No end has this number.
 const LISTENER: Token = Token(usize::MAX);
 
-/// What is watched, how many polls went by since the kernel was last asked, how long the last wait was
-/// to last at most, and a descriptor that is kept for the second
-/// end of a link, whose first one may take the last.
+/// What is watched, how many polls went by since the kernel was last asked, how long the last wait was to last at most and whether it
+/// worked, and a descriptor that is kept for the second end of a link, whose first one may take the last.
 ///
 /// Own.
 #[derive(Drop)]
@@ -40,6 +39,7 @@ pub(crate) struct Kernel {
     events: Events<Global>,
     skipped: u32,
     most: Option<u64>,
+    worked: bool,
     spare: Option<Registry>,
     ghost below: { skipped < 16 },
 }
@@ -52,6 +52,7 @@ impl Kernel {
             events,
             skipped: 0,
             most: Some(0),
+            worked: true,
             spare: None,
         })
     }
@@ -133,12 +134,16 @@ impl Kernel {
     pub(crate) fn wait(&mut self, timeout: Option<u64>) -> io::Result<()>
         ensures skipped { self.new.skipped ≡ 0 }
         ensures most { self.new.most ≡ timeout }
+        ensures worked { self.new.worked ≡ is_ok result }
         ensures spare { self.new.spare ≡ self.old.spare }
     {
         self.skipped = 0;
         self.most = timeout;
-        self.poll
-            .poll(&mut self.events, timeout.map(Duration::from_millis))
+        let waited = self
+            .poll
+            .poll(&mut self.events, timeout.map(Duration::from_millis));
+        self.worked = waited.is_ok();
+        waited
     }
 
     /// Passes the reports of the last wait on.
