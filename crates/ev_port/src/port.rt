@@ -1,5 +1,5 @@
 // The port: it reaches the connections. An end is the outside connection of a side.
-ghost use Rattle.std.specs.Prelude.{◌≡◌, ◌<◌, ◌++◌, length, [], ◌∷◌, true, false};
+ghost use Rattle.std.specs.Prelude.{◌≡◌, ◌<◌, ◌++◌, length, [], ◌∷◌, true, false, ⊤};
 ghost use Rattle.ev_types.specs.Trace.{Trace};
 ghost use Rattle.ev_port.specs.Vouching.{LongerBy, NothingWaits, TellsNoLinks};
 ghost use Rattle.ev_types.specs.declared.side.SideId.{SideId};
@@ -84,6 +84,10 @@ pub trait Port {
 
     /// What it tells of itself.
     ghost told: { Self → PortTold };
+
+    /// What `stop_accepting` does, by the port before it and after it. A caller that knows no more of the port has it from that call
+    /// alone.
+    ghost stops: { Self → Self → Type 0 } = { λ _ _. ⊤ };
 
     /// Listens at one address, and makes connections to the other.
     fn start(&mut self, listen: Addr, to: Addr) -> Started
@@ -182,13 +186,13 @@ pub trait Port {
         ensures told { PortStays (told self.old) (told self.new) }
         ensures vouched { LongerBy (vouches self.old) (vouches self.new) (close_events end) };
 
-    /// Says that no more links will be asked for, so that the port may stop listening. This body does nothing.
+    /// Says that no more links will be asked for, so that the port may stop listening.
     fn stop_accepting(&mut self)
+        ensures stops { stops self.old self.new }
         ensures cause { FaultsStay (faults self.old) (faults self.new) }
         ensures ends { AllWent (ends self.old) (ends self.new) (λ _. no_step) }
         ensures told { PortStays (told self.old) (told self.new) }
-        ensures vouched { LongerBy (vouches self.old) (vouches self.new) [] }
-    {}
+        ensures vouched { LongerBy (vouches self.old) (vouches self.new) [] };
 
     /// Where no link waits, none does until a turn begins or a link is opened.
     ghost waits_no_more: { (plan : Self.Plan) (t u : Trace) → TellsNoLinks u → none_waits plan t → none_waits plan (t ++ u) };

@@ -6,7 +6,7 @@ ghost use Rattle.program_end.specs.Complains.{Complains};
 ghost use Rattle.program_end.specs.EndStatus.{status_number};
 ghost use Rattle.command_words.specs.WordsStatus.{words_status};
 ghost use Rattle.command_words.specs.ServeGrammar.{serve_words_of};
-ghost use Rattle.relay_serve.specs.Seen.{drained};
+ghost use Rattle.relay_serve.specs.Seen.{drained, WasStopped};
 ghost use Rattle.relay_serve.specs.Served.{DidWith, settings_on};
 ghost use Rattle.evrelay.specs.Program.{seen_by, shows, Says, LeavesSink, LeavesAll};
 ghost use Rattle.evrelay.specs.RingWants.{last_entries};
@@ -65,6 +65,7 @@ fn relay_by<R: Wait, P: Port, K: Sink, E: Sink>(
         × LeavesSink K.Sink ended sink.old sink.new
         × Says ended (last_entries trace) (E.taken errors.old) (E.taken errors.new) (E.faults errors.old) (E.faults errors.new)
         × LeavesAll ended port.old port.new sink.old sink.new }
+    ensures stopped { result ≡ 0 → WasStopped P.Port }
 {
     let Ok(mut ring) = Ring::new(alloc) else {
         return finish(errors, Status::Memory);
@@ -91,6 +92,7 @@ pub fn relay_program<R: Wait, P: Port, K: Sink, E: Sink>(
         × LeavesSink K.Sink ended sink.old sink.new
         × Says ended (last_entries trace) (E.taken errors.old) (E.taken errors.new) (E.faults errors.old) (E.faults errors.new)
         × LeavesAll ended port.old port.new sink.old sink.new) }
+    ensures stopped { result ≡ 0 → WasStopped P.Port }
     ensures refused { IfErr words (λ bad. (result ≡ status_number (words_status bad))
         × Complains (words_status bad) (E.taken errors.old) (E.taken errors.new) (E.faults errors.old) (E.faults errors.new)
         × (port.new ≡ port.old) × (sink.new ≡ sink.old)) }
@@ -125,6 +127,7 @@ pub fn relay_told<R: Wait, P: Port, K: Sink, E: Sink>(
         × Carried trace (told_by port.new.log.calls) (ends_by port.new.log.calls)
         × MatchOption (serve_words_of (map string_bytes all.items)) ⊤ (λ route. IsPassedOn (settings_on route []) (ends_by port.new.log.calls))
         × MatchOption (serve_words_of (map string_bytes all.items)) ⊤ (λ route. IsStartedBy route ended (told_by port.new.log.calls))) }
+    ensures stopped { result ≡ 0 → WasStopped ⟦<TellingPort<P> as Port>⟧ }
     ensures refused { IfErr words (λ bad. (result ≡ status_number (words_status bad))
         × Complains (words_status bad) (E.taken errors.old) (E.taken errors.new) (E.faults errors.old) (E.faults errors.new)
         × (port.new ≡ port.old) × (sink.new ≡ sink.old)) }

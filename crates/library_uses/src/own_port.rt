@@ -85,6 +85,8 @@ impl Port for OneCall {
 
     fn close(&mut self, _end: SideId) {}
 
+    fn stop_accepting(&mut self) {}
+
     ghost waits_no_more = { λ plan t u quiet waits. waits };
 
     ghost unheard = { λ p e unheard plan t vouched. vouched };

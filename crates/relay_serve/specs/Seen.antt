@@ -8,6 +8,10 @@ use Rattle.ev_port.specs.declared.scribe.Scribe as scribe
 use Rattle.ev_port.specs.declared.stream.Sink as sink
 use Rattle.ev_port.specs.Faults.{Faults}
 
+-- It was told at some time that no more links will be asked for: of a port of which no more is known only that call has it that this was so.
+abbrev pub WasStopped : {P : Type 0} → port.Ghosts P → Type 0
+WasStopped {P} p = (old : P) × (new : P) × p.stops old new
+
 -- the trace that the scribe keeps, what the port tells of itself and of its ends, and its faults
 pub record Seen : Type 0 where
   pub log : Option Trace

@@ -1,8 +1,8 @@
 // A run over a port: it is started once, and turns are made until all links were opened and none is open, or a hook stops one.
-ghost use Rattle.std.specs.Prelude.{◌≡◌, ◌≢◌, ◌||◌, not, true};
+ghost use Rattle.std.specs.Prelude.{◌≡◌, ◌≢◌, ◌||◌, not, true, false, Ok};
 ghost use Rattle.ev_types.specs.declared.status.Status.TheVariants.{WriteFault};
 ghost use Rattle.relay_drive.specs.Seats.{telling, seated_sides, AreFresh, AreSeated};
-ghost use Rattle.relay_serve.specs.Seen.{seen, drained};
+ghost use Rattle.relay_serve.specs.Seen.{seen, drained, WasStopped};
 ghost use Rattle.relay_serve.specs.Served.{Did, AskedByPlans};
 ghost use Rattle.relay_serve.specs.Underway.{TurnsGo, RanTo, PortRests, is_served_out, ended_as, groupless_drive};
 
@@ -34,6 +34,7 @@ fn is_served_out(settings: &Settings, drive: &Drive) -> bool
 /// Says to the port that no more links will be asked for, where that is so and it was not said before.
 fn stop_accepting<P: Port>(accepts: bool, told: &mut bool, port: &mut P)
     ensures told { told.new ≡ (told.old || not accepts) }
+    ensures stops { accepts ≡ false → told.old ≡ false → P.stops port.old port.new }
     ensures rests { PortRests P.Port port.old port.new }
 
     // Only where that is so, and once.
@@ -59,6 +60,7 @@ fn make_turns<R: Wait, P: Port, S: Scribe>(
     requires seated { AreSeated drive.old.state seats.old.hooks.items seats.old.gone.items }
     requires fresh { AreFresh seats.old.hooks.items seats.old.gone.items }
     ensures went { TurnsGo P.Port S.Scribe result (drive.old, port.old, scribe.old) (drive.new, port.new, scribe.new) }
+    ensures stopped { result ≡ Ok ServeEnd.ServedOut → WasStopped P.Port }
     ensures asked { ended_as result ≢ Status.Memory → AskedByPlans
         (telling (λ h. heard (h.vtable, h.value)) (λ h. asked (h.vtable, h.value)) (λ h. planned (h.vtable, h.value)))
         seats.old.hooks.items (S.trace scribe.old) (S.trace scribe.new) }
@@ -94,6 +96,7 @@ fn run<R: Wait, P: Port, S: Scribe>(
     requires fresh { AreFresh seats.old.hooks.items seats.old.gone.items }
     ensures ran { RanTo route.now (seated_sides seats.old.hooks.items) (ended_as result) (seen P.Port S.Scribe (port.old, scribe.old))
         (seen P.Port S.Scribe (port.new, scribe.new)) drive.new.state }
+    ensures stopped { result ≡ Ok ServeEnd.ServedOut → WasStopped P.Port }
     ensures asked { ended_as result ≢ Status.Memory → AskedByPlans
         (telling (λ h. heard (h.vtable, h.value)) (λ h. asked (h.vtable, h.value)) (λ h. planned (h.vtable, h.value)))
         seats.old.hooks.items (S.trace scribe.old) (S.trace scribe.new) }
@@ -118,6 +121,7 @@ fn relay_seated<R: Wait, P: Port, S: Scribe, K: Sink>(
     requires fresh { AreFresh seats.old.hooks.items seats.old.gone.items }
     ensures did { Did route.now (seated_sides seats.old.hooks.items) result (seen P.Port S.Scribe (port.old, scribe.old))
         (seen P.Port S.Scribe (port.new, scribe.new)) (drained K.Sink sink.old) (drained K.Sink sink.new) }
+    ensures stopped { result ≡ Status.Ok → WasStopped P.Port }
     ensures asked { result ≢ Status.Memory → AskedByPlans
         (telling (λ h. heard (h.vtable, h.value)) (λ h. asked (h.vtable, h.value)) (λ h. planned (h.vtable, h.value)))
         seats.old.hooks.items (S.trace scribe.old) (S.trace scribe.new) }
@@ -150,6 +154,10 @@ pub fn relay<R: Wait, P: Port, S: Scribe, K: Sink>(
 ) -> Status
     ensures did { Did route.now (seated_sides hooks.items) result (seen P.Port S.Scribe (port.old, scribe.old))
         (seen P.Port S.Scribe (port.new, scribe.new)) (drained K.Sink sink.old) (drained K.Sink sink.new) }
+
+    // Where all was served the port was told that no more links will be asked for.
+    ensures stopped { result ≡ Status.Ok → WasStopped P.Port }
+
     // Where memory did not run out, hooks that tell plans asked what those have, by the entries that the scribe was given.
     ensures asked { result ≢ Status.Memory →
         AskedByPlans (telling (λ h. heard h) (λ h. asked h) (λ h. planned h)) hooks.items (S.trace scribe.old) (S.trace scribe.new) }

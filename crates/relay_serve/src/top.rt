@@ -1,9 +1,10 @@
 // All that a program does that relays over a port, as one call: words, port, turns, report.
 ghost use Rattle.std.specs.Prelude.{◌≡◌, ◌≢◌, map, string_bytes};
+ghost use Rattle.ev_types.specs.declared.status.Status.TheVariants as status;
 ghost use Rattle.ev_types.specs.declared.status.Status.TheVariants.{Usage, Memory, WriteFault};
 ghost use Rattle.command_words.specs.ServeGrammar.{serve_words_of};
 ghost use Rattle.relay_drive.specs.Seats.{telling, seated_sides};
-ghost use Rattle.relay_serve.specs.Seen.{seen, drained};
+ghost use Rattle.relay_serve.specs.Seen.{seen, drained, WasStopped};
 ghost use Rattle.relay_serve.specs.Served.{DidWith, AskedByPlans};
 
 use crate::run::relay;
@@ -33,6 +34,9 @@ pub fn serve<R: Wait, P: Port, S: Scribe, K: Sink>(
     ensures did { DidWith (serve_words_of (map string_bytes words.now)) (seated_sides hooks.items) result
         (seen P.Port S.Scribe (port.old, scribe.old)) (seen P.Port S.Scribe (port.new, scribe.new))
         (drained K.Sink sink.old) (drained K.Sink sink.new) }
+
+    // Where all was served the port was told that no more links will be asked for.
+    ensures stopped { result ≡ status.Ok → WasStopped P.Port }
 
     // Where memory did not run out, hooks that tell plans asked what those have, by the entries that the scribe was given.
     ensures asked { result ≢ Memory →

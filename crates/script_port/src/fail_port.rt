@@ -276,6 +276,16 @@ impl Port for FailPort {
         self.inner.close(end);
     }
 
+    fn stop_accepting(&mut self)
+        ensures after { self.new ≡ self.old }
+
+        // What every port says.
+        ensures cause { FaultsStay (fail_faults self.old) (fail_faults self.new) }
+        ensures ends { AllWent (ends_told self.old.inner.links) (ends_told self.new.inner.links) (λ _. no_step) }
+        ensures told { PortStays (port_told self.old.inner) (port_told self.new.inner) }
+        ensures vouched { LongerBy (vouches_nothing self.old) (vouches_nothing self.new) [] }
+    {}
+
     ghost waits_no_more = { waits_no_more };
 
     ghost unheard = { λ p e unheard turns t h. h };

@@ -385,6 +385,16 @@ impl Port for ScriptPort {
         self.links.close(end);
     }
 
+    fn stop_accepting(&mut self)
+        ensures after { self.new ≡ self.old }
+
+        // What every port says.
+        ensures cause { FaultsStay (script_faults self.old) (script_faults self.new) }
+        ensures ends { AllWent (ends_told self.old.links) (ends_told self.new.links) (λ _. no_step) }
+        ensures told { PortStays (port_told self.old) (port_told self.new) }
+        ensures vouched { LongerBy (ScriptVouches self.old) (ScriptVouches self.new) [] }
+    {}
+
     ghost waits_no_more = { waits_no_more };
 
     ghost unheard = { unheard_vouched };

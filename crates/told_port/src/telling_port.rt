@@ -70,6 +70,8 @@ impl<P: Port> Port for TellingPort<P> {
 
     ghost told = { λ p. told_by p.log.calls };
 
+    ghost stops = { λ old new. P.stops old.inner new.inner };
+
     fn start(&mut self, listen: Addr, to: Addr) -> Started
         ensures ends_within { AllWent (P.ends self.old.inner) (P.ends self.new.inner) (λ _. no_step) }
         ensures told_within { StartedAt (P.told self.old.inner) (P.told self.new.inner) listen to }
@@ -260,6 +262,7 @@ impl<P: Port> Port for TellingPort<P> {
     }
 
     fn stop_accepting(&mut self)
+        ensures stops { P.stops self.old.inner self.new.inner }
         ensures ends_within { AllWent (P.ends self.old.inner) (P.ends self.new.inner) (λ _. no_step) }
         ensures told_within { PortStays (P.told self.old.inner) (P.told self.new.inner) }
         ensures logged { self.new.log.calls ≡ (Call.StopAccepting, [], [], []) ∷ self.old.log.calls }

@@ -1,4 +1,4 @@
-use Rattle.std.proofs.Common.{List, map, string_bytes, refl, [], subst}
+use Rattle.std.proofs.Common.{List, map, string_bytes, refl, [], subst, sym, ◌∙◌}
 use Rattle.ev_types.specs.Trace.{Trace}
 use Rattle.ev_types.specs.declared.side.SideId.{SideId}
 use Rattle.ev_types.specs.declared.status.Status.TheVariants as status
@@ -9,7 +9,7 @@ use Rattle.relay_serve.specs.Seen.{drained}
 use Rattle.relay_serve.specs.Served.{DidWith}
 use Rattle.relay_serve.proofs.EndLemmas.{words-ended}
 use Rattle.evrelay.specs.Program.{seen_by}
-use Rattle.evrelay.proofs.ProgramLemmas.{none-seated, says-line}
+use Rattle.evrelay.proofs.ProgramLemmas.{none-seated, says-line, ended-well}
 use Rattle.evrelay.proofs.program.relay_by.Goals as goal
 
 -- There is no memory for the ring, and nothing was done.
@@ -25,6 +25,7 @@ returns-in_default g c = record {
     says-line status.Memory [] _ _ _ _ refl c.finish.ensures.line,
     (λ e. absurd (cc)),
   );
+  stopped = λ zero. absurd (let e = sym c.finish.ensures.number ∙ zero in cc);
 }
 
 -- The ring began with no entry, no side had a hook, and what the ring shows are the last entries of the trace that it was told.
@@ -51,4 +52,5 @@ returns g c =
         c.say.ensures.said,
         (λ e. let left = c.serve-ended.ensures.untouched e in (left.0, left.2)),
       );
+      stopped = λ zero. c.serve-ended.ensures.stopped (ended-well ended (sym c.say.ensures.number ∙ zero));
     }

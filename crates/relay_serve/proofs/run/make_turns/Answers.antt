@@ -14,6 +14,7 @@ use Rattle.relay_serve.specs.Underway.{TurnsCut, TurnsEnd}
 use Rattle.relay_serve.specs.declared.run.ServeEnd.TheVariants as serve_end
 use Rattle.relay_serve.proofs.TurnsLemmas.{begins, stands-next, stopped-next, turns-next, tied-next, closed-next, cut-closed, cut-spent}
 use Rattle.relay_serve.proofs.RestLemmas.{rests}
+use Rattle.relay_serve.proofs.StoppedLemmas.{stopped-after, none-more}
 use Rattle.relay_serve.proofs.WorkLemmas.{has-work, served-out}
 use Rattle.relay_serve.proofs.TurnsLemmas.{cut-else, unworn, either, same-fault, told-on, asked-told, asked-cut}
 use Rattle.relay_serve.proofs.run.make_turns.Goals as goal
@@ -21,6 +22,7 @@ use Rattle.relay_serve.proofs.run.make_turns.Goals as goal
 pub loop-init : goal.loop-init
 loop-init g c = record {
   calm = ap (λ (d : DriveValue). d.kept) c.requires.new_drive;
+  stopped = λ told. absurd (cc);
   seated = c.requires.seated;
   went = rw c.requires.new_drive
       (begins
@@ -60,6 +62,7 @@ loop-preserved g c =
     _ _ c.in-Ok-Went.field-0-is stood.0 here w once tied closed more in
     record {
       calm = calm;
+      stopped = stopped-after g.P.Port _ _ _ _ _ inv.stopped c.stop_accepting.ensures.told c.stop_accepting.ensures.stops;
       seated = c.in-Ok-Went.ensures.seated calm;
       went = (
         next.0,
@@ -89,6 +92,13 @@ returns-then-is_served_out-clause-went g c =
           (sym c.is_served_out.ensures ∙ c.if-is_served_out.true),
     ) in
     rw c.requires.new_drive out
+
+-- All links were opened, so that the port was told.
+pub returns-then-is_served_out-clause-stopped : goal.returns-then-is_served_out-clause-stopped
+returns-then-is_served_out-clause-stopped g c = λ out.
+    let none = none-more c.loop.drive.state c.args.settings.now.links (sym c.is_served_out.ensures ∙ c.if-is_served_out.true) in
+    stopped-after g.P.Port _ _ _ _ _ c.loop.invariant.stopped c.stop_accepting.ensures.told c.stop_accepting.ensures.stops
+    (grind (c.stop_accepting.ensures.told, none))
 
 -- A hook stopped the last turn.
 pub returns-in-Ok-Stopped-clause-went : goal.returns-in-Ok-Stopped-clause-went
