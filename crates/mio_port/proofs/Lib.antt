@@ -7,3 +7,4 @@ pub mod SomeMarkedLemmas
 pub mod HeardLemmas
 pub mod ReportLemmas
 pub mod LookLemmas
+pub mod HandedOnLemmas

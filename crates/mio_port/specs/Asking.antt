@@ -8,6 +8,7 @@ use Rattle.mio_port.specs.declared.end.End.{End}
 use Rattle.mio_port.specs.declared.kernel.Kernel.{Kernel}
 use Rattle.mio_port.specs.declared.mio_port.MioPort.{MioPort}
 use Rattle.mio_port.specs.Acceptor.{after_time, is_open}
+use Rattle.mio_port.specs.EndPlaces.{handed_on}
 use Rattle.mio_port.specs.Reports.{AsReported}
 use Rattle.mio_port.specs.Waiting.{looks_after, is_due, longest_wait}
 
@@ -42,11 +43,11 @@ Looked is_any most None now_kernel old new ready now_ready worked =
 Looked is_any most (Some was) now_kernel old new ready now_ready worked =
     PassedOrAsked (is_any && not (is_due was.skipped)) most was now_kernel old new ready now_ready worked
 
--- A poll of wants, of which one can be done or none: from the time at which it began.
+-- A poll of wants, of which one can be done or none: from the time at which it began, after what was pending was handed to the system.
 pub record PollLooked {R : Type 0} (any_ready accept : Bool) (timeout : Option ℕ) (old new : MioPort R) (answer : Polled) : Type 0 where
   pub time : ℕ
   pub later : old.clock.last ≤ time
   pub looked : let acceptor : Acceptor = after_time old.acceptor time in
       let is_any : Bool = any_ready || (accept && is_open acceptor) in
       Looked is_any (longest_wait is_any accept timeout (option_map (λ to. to - time) acceptor.paused_to)) old.kernel new.kernel
-      old.ends.ends.items new.ends.ends.items old.acceptor.ready new.acceptor.ready (not (is_failed_poll answer))
+      (handed_on old.ends.ends.items) new.ends.ends.items old.acceptor.ready new.acceptor.ready (not (is_failed_poll answer))

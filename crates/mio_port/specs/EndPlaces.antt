@@ -1,11 +1,13 @@
--- The counts of faults of all ends, and which wants the ends are ready for.
-use Rattle.std.specs.Prelude.{◌≡◌, ◌≢◌, ℕ, Bool, true, false, not, ◌&&◌, ◌||◌, List, Option, Some, None, slice_index_or, option_map}
+-- The counts of faults of all ends, which wants the ends are ready for, and which end of writing is pending.
+use Rattle.std.specs.Prelude.{◌≡◌, ◌≢◌, ◌==◌, ℕ, Bool, true, false, not, ◌&&◌, ◌||◌, List, map}
+use Rattle.std.specs.Prelude.{Option, Some, None, slice_index_or, option_map}
 use Rattle.ev_port.specs.FaultCounts.{Counted}
 use Rattle.ev_types.specs.declared.side.Side.TheVariants.{In, Out}
 use Rattle.ev_types.specs.declared.side.SideId.{SideId}
 use Rattle.ev_types.specs.Sides.{number}
 use Rattle.ev_port.specs.declared.port.Want.{Want}
 use Rattle.mio_port.specs.declared.end.End.{End}
+use Rattle.mio_port.specs.OneEnd.{handed_on_end}
 
 -- an end that isn't there met no fault
 abbrev pub faults_of : Option End → ℕ
@@ -71,6 +73,20 @@ is_write_ready (Some e) = e.write_ready
 abbrev pub came_short : Option End → Bool
 came_short None = false
 came_short (Some e) = e.came_short
+
+-- its writing is to be ended, and the system was not told yet
+abbrev pub is_ending : Option End → Bool
+is_ending None = false
+is_ending (Some e) = e.ending
+
+-- of at most one number: this is it
+abbrev pub is_at : Option ℕ → ℕ → Bool
+is_at None n = false
+is_at (Some at) n = n == at
+
+-- all ends, after what was pending is handed to the system
+abbrev pub handed_on : List (Option End) → List (Option End)
+handed_on ends = map (option_map handed_on_end) ends
 
 abbrev pub can_read : List (Option End) → Want → Bool
 can_read ends want = want.read && is_read_ready (slice_index_or ends (number want.side) None)

@@ -1,4 +1,4 @@
--- One end after each call: which ready bits it keeps, and when its count of faults rises.
+-- One end after each call: which ready bits it keeps, when its count of faults rises, and what the system is yet to be told of it.
 use Rattle.std.specs.Prelude.{ℕ, ◌==◌, Bool, true, false, not, ◌&&◌, ◌||◌, nat_lt, if◌then◌else◌, List, [], length}
 use Rattle.ev_port.specs.Counting.{risen_if}
 use Rattle.mio.specs.declared.event.event.Event.{Event}
@@ -24,6 +24,7 @@ fresh by write_ready = record {
   filled = false;
   bulky = false;
   came_short = false;
+  ending = false;
   faults = 0;
 }
 
@@ -78,9 +79,13 @@ after_write e attempt.Interrupted offered = e
 after_write e attempt.Failed offered = faulty e
 after_write e attempt.Absent offered = e
 
--- one write of these bytes was made
+-- an end of writing that was pending is handed to the system, once
+abbrev pub handed_on_end : End → End
+handed_on_end e = if e.ending then record (told_end e (call.EndedWriting, [])) { ending = false } else e
+
+-- one write of these bytes was made, after an end of writing that was pending
 abbrev pub written_end : End → Attempt → List ℕ → End
-written_end e a from = after_write (told_end e (call.Write a, from)) a (length from)
+written_end e a from = after_write (told_end (handed_on_end e) (call.Write a, from)) a (length from)
 
 -- an early check waits for the next report, and a failed one drops the socket
 abbrev pub after_check : End → Check → End
@@ -95,11 +100,16 @@ after_check e check.Absent = e
 abbrev pub checked_end : End → Check → End
 checked_end e c = after_check (told_end e (call.Checked c, [])) c
 
--- its writing was ended, once
-abbrev pub ended_end : End → End
-ended_end e = told_end e (call.EndedWriting, [])
+abbrev pub has_socket : Connection → Bool
+has_socket (connection.Open socket) = true
+has_socket connection.Refused = false
+has_socket connection.Closed = false
 
--- a closed end has no connection, and keeps its count
+-- its writing is to be ended where it has a socket, and the system was not told yet
+abbrev pub ended_end : End → End
+ended_end e = record e { ending = has_socket e.connection }
+
+-- a closed end has no connection, of which nothing more is told, and keeps its count
 abbrev pub closed_end : End → End
 closed_end e = record e {
   connection = connection.Closed;
@@ -108,4 +118,5 @@ closed_end e = record e {
   filled = false;
   bulky = false;
   came_short = false;
+  ending = false;
 }

@@ -6,7 +6,7 @@ ghost use Rattle.mio_port.specs.Attempts.{AttemptBy, CheckBy, read_answer, write
 ghost use Rattle.mio_port.specs.EndAnswers.{ReadBy, WrittenBy, CheckedBy};
 ghost use Rattle.mio_port.specs.EndLeft.{ReadLeft, WriteLeft, CheckLeft};
 ghost use Rattle.mio_port.specs.OneEnd.{fresh, told, after_read, after_write, after_check};
-ghost use Rattle.mio_port.specs.OneEnd.{closed_end, counted_read, ended_end, noticed_end};
+ghost use Rattle.mio_port.specs.OneEnd.{closed_end, counted_read, ended_end, handed_on_end, has_socket, noticed_end};
 
 use crate::attempt::Attempt;
 use crate::check::Check;
@@ -28,7 +28,8 @@ pub(crate) enum Connection {
 /// One end. The bits say that the kernel reported it ready for a way and that no call has found otherwise since; the end
 /// is hung up once the kernel told that the peer sends no more, or of an error. It is bulky if one of its last two reads filled
 /// the room that it was given: what is sent in bulk comes in bursts, at the end of which one read comes short. Its last write came
-/// short if it took less than it was given, or would have blocked.
+/// short if it took less than it was given, or would have blocked. It is ending while its writing is to be ended and the system was
+/// not told yet.
 ///
 /// Own.
 #[derive(Drop)]
@@ -40,6 +41,7 @@ pub(crate) struct End {
     filled: bool,
     bulky: bool,
     came_short: bool,
+    ending: bool,
     faults: u64,
 }
 
@@ -84,6 +86,12 @@ impl Connection {
             socket.end_writing();
         }
     }
+
+    fn has_socket(&self) -> bool
+        ensures { result ≡ has_socket self.now }
+    {
+        matches!(self, Connection::Open(_))
+    }
 }
 
 impl End {
@@ -99,6 +107,7 @@ impl End {
             filled: false,
             bulky: false,
             came_short: false,
+            ending: false,
             faults: 0,
         }
     }
@@ -115,6 +124,7 @@ impl End {
             filled: false,
             bulky: false,
             came_short: false,
+            ending: false,
             faults: 0,
         }
     }
@@ -159,6 +169,7 @@ impl End {
         ensures within { ReadWithin result (length into.new) }
         ensures cause { Counted self.old.faults self.new.faults (is_failed_read result) }
         ensures other_way { self.new.write_ready ≡ self.old.write_ready }
+        ensures ending { self.new.ending ≡ self.old.ending }
         ensures by { ReadBy (Some self.old.connection) result }
         ensures left { ReadLeft into.new result self.old self.new }
     {
@@ -206,9 +217,11 @@ impl End {
         ensures within { WriteWithin result (length from.now) }
         ensures cause { Counted self.old.faults self.new.faults (is_failed_write result) }
         ensures other_way { self.new.read_ready ≡ self.old.read_ready }
+        ensures handed_on { self.new.ending ≡ false }
         ensures by { WrittenBy (Some self.old.connection) result }
         ensures left { WriteLeft from.now result self.old self.new }
     {
+        self.hand_on();
         let attempt = self.connection.write(from);
         self.take_write(attempt, from.len())
     }
@@ -239,6 +252,7 @@ impl End {
     pub(crate) fn check(&mut self) -> ConnAnswer
         ensures cause { Counted self.old.faults self.new.faults (is_failed_conn result) }
         ensures other_way { self.new.read_ready ≡ self.old.read_ready }
+        ensures ending { self.new.ending ≡ self.old.ending }
         ensures by { CheckedBy (Some self.old.connection) result }
         ensures left { CheckLeft result self.old self.new }
         ensures failed { result ≡ ConnAnswer.Failed → self.new.connection ≡ Connection.Refused }
@@ -268,13 +282,30 @@ impl End {
         }
     }
 
+    /// Its writing is to be ended. The system is told when that is handed on, or never if the end is closed before.
     pub(crate) fn close_write(&mut self)
         ensures { self.new ≡ ended_end self.old }
     {
-        self.connection.end_writing();
+        self.ending = self.connection.has_socket();
     }
 
-    /// Drops the socket. The count of faults stays.
+    pub(crate) fn is_ending(&self) -> bool
+        ensures { result ≡ self.now.ending }
+    {
+        self.ending
+    }
+
+    /// Tells the system that its writing ends, if that is pending.
+    pub(crate) fn hand_on(&mut self)
+        ensures { self.new ≡ handed_on_end self.old }
+    {
+        if self.ending {
+            self.connection.end_writing();
+            self.ending = false;
+        }
+    }
+
+    /// Drops the socket, which ends its writing too. The count of faults stays.
     pub(crate) fn close(&mut self)
         ensures { self.new ≡ closed_end self.old }
     {
@@ -284,5 +315,6 @@ impl End {
         self.filled = false;
         self.bulky = false;
         self.came_short = false;
+        self.ending = false;
     }
 }

@@ -1,22 +1,22 @@
-// The ends of all links, by their numbers, and the numbers of those that are ready. An end stays once it is made, and its
-// count of faults with it.
+// The ends of all links, by their numbers, the numbers of those that are ready, and that of the one whose end of writing is
+// pending. An end stays once it is made, and its count of faults with it.
 ghost use Rattle.std.specs.Prelude.{◌≡◌, ◌<◌, ◌≤◌, ◌==◌, ◌+◌, ◌*◌, ℕ, [], None, Some, length, map, filter, slice_index_or, vec_len};
-ghost use Rattle.std.specs.Prelude.{false, true, not, ◌&&◌, option_map, if◌then◌else◌, IsOk, OnOk};
+ghost use Rattle.std.specs.Prelude.{false, true, not, ◌&&◌, if◌then◌else◌, IsOk, OnOk};
 ghost use Rattle.std.specs.List.{list_any};
-ghost use Rattle.ev_port.specs.FaultCounts.{Counted};
 ghost use Rattle.ev_port.specs.Table.{RowsStay, is_marked, named};
 ghost use Rattle.ev_port.specs.Ends.{ReadWithin, is_failed_read, WriteWithin, is_failed_write, is_failed_conn};
 ghost use Rattle.ev_types.specs.Sides.{number};
-ghost use Rattle.mio_port.specs.EndAnswers.{connection_of, connection_at, ReadBy, WrittenBy, CheckedBy};
-ghost use Rattle.mio_port.specs.EndLeft.{LeftAt, PlaceLeft, ReadLeft, WriteLeft, CheckLeft};
+ghost use Rattle.mio_port.specs.EndAnswers.{connection_at, ReadBy, WrittenBy, CheckedBy};
+ghost use Rattle.mio_port.specs.EndLeft.{PlaceLeft, ReadLeft, WriteLeft, CheckLeft};
 ghost use Rattle.mio_port.specs.PortCalls.{OthersStay};
 ghost use Rattle.mio_port.specs.OneEnd.{noticed_end, ended_end, closed_end};
-ghost use Rattle.mio_port.specs.EndPlaces.{faults_of, CountsStay, CountsAt, PlacesStay, PlaceWent, holds, is_made};
+ghost use Rattle.mio_port.specs.EndPlaces.{CountsStay, CountsAt, PlacesStay, PlaceWent, handed_on, holds, is_at, is_ending, is_made};
 ghost use Rattle.mio_port.specs.EndPlaces.{came_short, is_bulky, is_prompt, is_write_ready, can_read, can_write, wants_ready};
 ghost use Rattle.mio_port.specs.EndPlaces.{marked, unmarked};
 ghost use Rattle.mio_port.specs.ReadTurns.{ListedInTurn, drains_now, marked_with, other_end};
 
 use crate::end::End;
+use crate::place::{check_at, close_at, close_write_at, hand_on_at, notice_at, read_at, write_at};
 use crate::turn::{Turn, other_end, wants_at};
 use ev_port::{Want, WantTable};
 use ev_types::{ConnAnswer, ReadAnswer, Side, SideId, WriteAnswer};
@@ -28,6 +28,9 @@ use std::alloc::{AllocError, Global};
 /// of the ends that are ready for reading, the bulky ones in a set of their own, and of those that are
 /// ready for writing, so that a poll looks at one end at most.
 ///
+/// An end of writing is pending from its call until it is handed to the system, of one end at most, or until that end is closed, since a
+/// close ends writing by itself.
+///
 /// Own.
 #[derive(Drop)]
 pub(crate) struct Ends {
@@ -35,12 +38,14 @@ pub(crate) struct Ends {
     prompt: NumberSet,
     bulky: NumberSet,
     writable: NumberSet,
+    pending: Option<usize>,
     ghost prompts: { (n : ℕ) → prompt.has n ≡ is_prompt (slice_index_or ends.items n None) },
     ghost bulks: { (n : ℕ) → bulky.has n ≡ is_bulky (slice_index_or ends.items n None) },
     ghost writes: { (n : ℕ) → writable.has n ≡ is_write_ready (slice_index_or ends.items n None) },
     ghost prompt_room: { vec_len ends ≤ prompt.len },
     ghost bulky_room: { vec_len ends ≤ bulky.len },
     ghost write_room: { vec_len ends ≤ writable.len },
+    ghost pendings: { (n : ℕ) → is_ending (slice_index_or ends.items n None) ≡ is_at pending n },
 }
 
 pub(crate) fn in_end(link: u32) -> SideId
@@ -58,69 +63,6 @@ pub(crate) fn out_end(link: u32) -> SideId
     SideId {
         link,
         side: Side::Out,
-    }
-}
-
-// The calls on the place of an end. Where no end is there they find nothing to do.
-
-fn read_at(place: &mut Option<End>, into: &mut [u8]) -> ReadAnswer
-    requires { 0 < length into.old }
-    ensures within { ReadWithin result (length into.new) }
-    ensures cause { Counted (faults_of place.old) (faults_of place.new) (is_failed_read result) }
-    ensures by { ReadBy (connection_of place.old) result }
-    ensures left { LeftAt (ReadLeft into.new result) place.old place.new }
-{
-    match place {
-        Some(end) => end.read(into),
-        None => ReadAnswer::NotYet,
-    }
-}
-
-fn write_at(place: &mut Option<End>, from: &[u8]) -> WriteAnswer
-    requires { 0 < length from.now }
-    ensures within { WriteWithin result (length from.now) }
-    ensures cause { Counted (faults_of place.old) (faults_of place.new) (is_failed_write result) }
-    ensures by { WrittenBy (connection_of place.old) result }
-    ensures left { LeftAt (WriteLeft from.now result) place.old place.new }
-{
-    match place {
-        Some(end) => end.write(from),
-        None => WriteAnswer::NotYet,
-    }
-}
-
-fn check_at(place: &mut Option<End>) -> ConnAnswer
-    ensures cause { Counted (faults_of place.old) (faults_of place.new) (is_failed_conn result) }
-    ensures by { CheckedBy (connection_of place.old) result }
-    ensures left { LeftAt (CheckLeft result) place.old place.new }
-{
-    match place {
-        Some(end) => end.check(),
-        None => ConnAnswer::Pending,
-    }
-}
-
-fn notice_at(place: &mut Option<End>, event: &Event)
-    ensures { place.new ≡ option_map (λ end. noticed_end end event.now) place.old }
-{
-    if let Some(end) = place {
-        end.notice(event);
-    }
-}
-
-fn close_write_at(place: &mut Option<End>)
-    ensures { place.new ≡ option_map ended_end place.old }
-{
-    if let Some(end) = place {
-        end.close_write();
-    }
-}
-
-fn close_at(place: &mut Option<End>)
-    ensures { place.new ≡ option_map closed_end place.old }
-{
-    if let Some(end) = place {
-        end.close();
     }
 }
 
@@ -177,6 +119,15 @@ fn came_short(ends: &[Option<End>], number: usize) -> bool
     }
 }
 
+// Nothing is pending any more of the end with this number.
+fn settle(pending: &mut Option<usize>, number: usize)
+    ensures { (n : ℕ) → is_at pending.new n ≡ (if n == number then false else is_at pending.old n) }
+{
+    if *pending == Some(number) {
+        *pending = None;
+    }
+}
+
 // Lists what can be done, as if the end with this number could be read too.
 fn mark_with(prompt: &mut NumberSet, writable: &NumberSet, who: usize, wants: &mut WantTable)
     requires { who < prompt.old.len }
@@ -200,6 +151,7 @@ impl Ends {
             prompt: NumberSet::new(alloc),
             bulky: NumberSet::new(alloc),
             writable: NumberSet::new(alloc),
+            pending: None,
         }
     }
 
@@ -241,6 +193,8 @@ impl Ends {
         requires new { holds self.old.ends.items link ≡ false }
         requires no_fault_in { inside.faults ≡ 0 }
         requires no_fault_out { outside.faults ≡ 0 }
+        requires not_ending_in { inside.ending ≡ false }
+        requires not_ending_out { outside.ending ≡ false }
         ensures counts { CountsStay self.old.ends.items self.new.ends.items }
         ensures made { holds self.new.ends.items link ≡ true }
         ensures others { OthersStay self.old.ends.items self.new.ends.items link }
@@ -407,6 +361,7 @@ impl Ends {
             return WriteAnswer::NotYet;
         };
         let answer = write_at(place, from);
+        settle(&mut self.pending, number);
         keep_up(
             &self.ends,
             number,
@@ -437,15 +392,19 @@ impl Ends {
         answer
     }
 
+    /// The writing of this end is to be ended, and an end of writing that was pending is handed to the system.
     pub(crate) fn close_write(&mut self, side: SideId)
         ensures counts { CountsStay self.old.ends.items self.new.ends.items }
-        ensures went { PlaceWent self.old.ends.items self.new.ends.items (number side) ended_end }
+        ensures went { PlaceWent (handed_on self.old.ends.items) self.new.ends.items (number side) ended_end }
     {
+        self.hand_on();
         let number = side.number();
         let Some(place) = self.ends.get_mut(number) else {
             return;
         };
-        close_write_at(place);
+        if close_write_at(place) {
+            self.pending = Some(number);
+        }
         keep_up(
             &self.ends,
             number,
@@ -453,6 +412,20 @@ impl Ends {
             &mut self.bulky,
             &mut self.writable,
         );
+    }
+
+    /// Hands to the system the end of writing that is pending, if one is.
+    pub(crate) fn hand_on(&mut self)
+        ensures counts { CountsStay self.old.ends.items self.new.ends.items }
+        ensures ends { self.new.ends.items ≡ handed_on self.old.ends.items }
+        ensures none { self.new.pending ≡ None }
+    {
+        let Some(number) = self.pending.take() else {
+            return;
+        };
+        if let Some(place) = self.ends.get_mut(number) {
+            hand_on_at(place);
+        }
     }
 
     pub(crate) fn close(&mut self, side: SideId)
@@ -464,6 +437,7 @@ impl Ends {
             return;
         };
         close_at(place);
+        settle(&mut self.pending, number);
         keep_up(
             &self.ends,
             number,

@@ -10,6 +10,7 @@ mod end;
 mod ends;
 mod kernel;
 mod mio_port;
+mod place;
 mod scarce;
 mod socket;
 mod socket_call;

@@ -20,7 +20,7 @@ ghost use Rattle.mio_port.specs.EndAnswers.{connection_at, ReadBy, WrittenBy, Ch
 ghost use Rattle.mio_port.specs.Acceptor.{shut_acceptor};
 ghost use Rattle.mio_port.specs.EndLeft.{CheckLeft, NewEnds, PlaceLeft, ReadLeft, WriteLeft};
 ghost use Rattle.mio_port.specs.OneEnd.{ended_end, closed_end};
-ghost use Rattle.mio_port.specs.EndPlaces.{PlaceWent, holds, wants_ready};
+ghost use Rattle.mio_port.specs.EndPlaces.{PlaceWent, handed_on, holds, wants_ready};
 ghost use Rattle.mio_port.specs.Kernels.{watch_of, HasSpare};
 ghost use Rattle.mio_port.specs.Asking.{PollLooked};
 ghost use Rattle.mio_port.specs.PollLeft.{PollLeft};
@@ -50,10 +50,14 @@ use std::time::Clock;
 ///
 /// Each socket is watched for both ways from the moment it is made, and each end keeps a bit a way that says that it is
 /// ready. A report of the kernel sets the bit, an error or a hang-up sets both, and a call that finds the way blocked
-/// clears it, as does a read or a write that came short. So a poll makes at most one call of the system, whatever is wanted;
-/// and none where something wanted is ready already, but at each 16th such poll, so that nothing waits for ever behind an
+/// clears it, as does a read or a write that came short. So a poll asks for reports at most once, whatever is wanted;
+/// and not where something wanted is ready already, but at each 16th such poll, so that nothing waits for ever behind an
 /// end that is always ready. The numbers of the ends whose bit is set stand in a set a way, so that a poll finds what is
 /// ready without a look at the ends.
+///
+/// An end of writing is handed to the system at the next poll at the latest; closing the end before that leaves it out, since a
+/// close ends writing by itself. One is pending at most: the next `close_write`, of whatever end, hands it on first, as does a
+/// `write` to the end itself. No other call does. A port that goes closes its ends.
 ///
 /// Its clauses are those of every port. It tells nothing of the bytes and vouches for no trace, since no clause can say
 /// what a socket gives. Its counts of faults are real: one for polling, one for the listener and one an end, each of 64
@@ -174,7 +178,10 @@ impl<'a, R: Net + Clock + AllocGlobal> MioPort<'a, R> {
 ///   made; a write that takes no byte is `Failed`, as is every other error. No signal comes of a peer that is gone.
 /// - `stop_accepting` closes the listener: a client that comes from then on is refused, and one that was not accepted yet is
 ///   cut off.
-/// - `close_write` ignores what the system says, and `close` drops the socket with all that wasn't read.
+/// - `close_write` leaves its end pending, if that has a socket, until the next `poll`, `poll_table` or `close_write`, a `write` to
+///   the end, or its `close`, which leaves it out. What the system says is ignored. Until then the peer sees no end.
+/// - `close` drops the socket with all that wasn't read, and ends its writing so; where bytes wait unread the system resets the
+///   connection in place of that.
 impl<'a, R: Net + Clock + AllocGlobal> Port for MioPort<'a, R> {
     ghost use Rattle.std.specs.Prelude.{⊤};
 
@@ -353,7 +360,7 @@ impl<'a, R: Net + Clock + AllocGlobal> Port for MioPort<'a, R> {
     }
 
     fn close_write(&mut self, end: SideId)
-        ensures ended { PlaceWent self.old.ends.ends.items self.new.ends.ends.items (number end) ended_end }
+        ensures ended { PlaceWent (handed_on self.old.ends.ends.items) self.new.ends.ends.items (number end) ended_end }
         ensures others { self.new ≡ record self.old { ends = self.new.ends } }
 
         // What every port says.

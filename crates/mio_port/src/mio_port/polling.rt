@@ -1,5 +1,5 @@
 // What a poll does but for what every port says of it: how long it waits, what it hears, and what it marks.
-ghost use Rattle.std.specs.Prelude.{◌≡◌, ◌≤◌, ◌-◌, true, false, is_none, option_map, ◌||◌, ◌&&◌};
+ghost use Rattle.std.specs.Prelude.{◌≡◌, ◌≤◌, ◌-◌, true, false, None, is_none, option_map, ◌||◌, ◌&&◌};
 ghost use Rattle.std.specs.List.{list_any};
 ghost use Rattle.ev_port.specs.Faults.{FaultsStay, PollFaults};
 ghost use Rattle.ev_port.specs.Polling.{is_failed_poll};
@@ -76,7 +76,8 @@ impl<R: Net + Clock + AllocGlobal> MioPort<'_, R> {
         is_any_ready || accept && self.acceptor.is_open()
     }
 
-    // What every poll does before anything is marked, and its answer. It doesn't wait where something wanted is ready.
+    // What every poll does before anything is marked, and its answer. An end of writing that is pending is handed on before it waits, and it
+    // doesn't wait where something wanted is ready.
     fn wait(&mut self, is_any_ready: bool, accept: bool, timeout: Option<u64>) -> Polled
         ensures left { PollLeft self.old self.new result }
         ensures asked { Accepts self.new.acceptor accept result }
@@ -84,6 +85,7 @@ impl<R: Net + Clock + AllocGlobal> MioPort<'_, R> {
         ensures looked { PollLooked is_any_ready accept timeout self.old self.new result }
         ensures turn { self.new.turn ≡ self.old.turn }
     {
+        self.ends.hand_on();
         let pause = self.pause_left();
         let is_any = self.is_any_asked(is_any_ready, accept);
         if !self.look(is_any, longest_wait(is_any, accept, timeout, pause)) {
@@ -96,8 +98,9 @@ impl<R: Net + Clock + AllocGlobal> MioPort<'_, R> {
         }
     }
 
-    // Whether the kernel could be asked, if it was.
+    // Whether the kernel could be asked, if it was. Nothing is pending while it is waited for.
     fn look(&mut self, is_any: bool, most: Option<u64>) -> bool
+        requires handed_on { self.old.ends.pending ≡ None }
         ensures cause { FaultsStay (mio_faults self.old) (mio_faults self.new) }
         ensures heard { AllHeard self.old.ends.ends.items self.new.ends.ends.items }
         ensures listener { self.new.acceptor ≡ record self.old.acceptor { ready = self.new.acceptor.ready } }
