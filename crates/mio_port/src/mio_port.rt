@@ -197,6 +197,8 @@ impl<'a, R: Net + Clock + AllocGlobal> Port for MioPort<'a, R> {
 
     ghost told = { λ _. silent_port };
 
+    ghost stops = { λ old new. new ≡ record old { acceptor = shut_acceptor old.acceptor.faults } };
+
     fn start(&mut self, listen: Addr, to: Addr) -> Started
         ensures listens { Listens self.new.acceptor listen to result }
         ensures quiet { self.new.acceptor.ready ≡ false }
