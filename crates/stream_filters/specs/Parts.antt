@@ -1,6 +1,6 @@
 -- The parts in which the code makes a run.
 use Rattle.std.specs.Prelude.{◌≡◌, ℕ, suc, ◌+◌, ◌*◌, ◌≤◌, ◌⊎◌, ◌&&◌, true, false, if◌then◌else◌, Option, Some, None, slice_index}
-use Rattle.std.specs.Prelude.{List, [], ◌∷◌, ◌++◌, length, take, drop}
+use Rattle.std.specs.Prelude.{List, [], ◌∷◌, ◌++◌, length, take, drop, All, ◌≢◌, ◌<◌}
 use Rattle.std.specs.List.{last_or, list_all}
 use Rattle.ev_types.specs.declared.filter.FilterKind.{FilterKind}
 use Rattle.filter_model.specs.Filter.{is_hex, hex_in, hex_value}
@@ -18,6 +18,12 @@ pub record AppendsPart (k : FilterKind) (limit count : ℕ) (last : Option ℕ) 
       ≡ joined (record { used = used; made = made })
       (run k limit (length new) (count + used) (last_or last (take used src)) (drop used src))
   pub stops : used ≡ 0 → run k limit (length old) count last src ≡ nothing_ran
+
+-- so many bytes of src stand before the first that is `stop`, or are all
+pub record StandBefore (stop : ℕ) (src : List ℕ) (count : ℕ) : Type 0 where
+  pub within : count ≤ length src
+  pub others : All (λ x. x ≢ stop) (take count src)
+  pub stops : count < length src → slice_index src count ≡ stop
 
 -- so many pairs of hex digits in a row
 pub data ArePairs : ℕ → List ℕ → Type 0 where

@@ -11,6 +11,7 @@ mod hex_parts;
 mod knowledge;
 mod parts;
 mod put;
+mod put_before;
 mod step;
 mod stream_filter;
 

@@ -9,32 +9,13 @@ ghost use Rattle.stream_filters.specs.Parts.{AppendsPart, HasRoom};
 
 use crate::hex_parts::{hex_in_part, hex_out_part};
 use crate::knowledge::Knowledge;
-use crate::put::put;
+use crate::put::{put, put_byte};
+use crate::put_before::put_before;
 use ev_types::FilterKind;
-use memchr::memchr;
 
 const CR: u8 = b'\r';
 
 const LF: u8 = b'\n';
-
-/// How many bytes stand before the first that is `stop`, or all.
-fn all_before(stop: u8, src: &[u8]) -> usize
-    ensures within { result ≤ length src.now }
-    ensures others { All (λ x. x ≢ stop) (take result src.now) }
-    ensures stop { result < length src.now → slice_index src.now result ≡ stop }
-{
-    memchr(stop, src).unwrap_or(src.len())
-}
-
-/// How many bytes stand before the first that is `stop`, or all, and at most so many. It looks at no more of them.
-fn length_before(stop: u8, src: &[u8], most: usize) -> usize
-    ensures within { result ≤ length src.now }
-    ensures at_most { result ≤ most }
-    ensures others { All (λ x. x ≢ stop) (take result src.now) }
-    ensures stop { result < length src.now → result < most → slice_index src.now result ≡ stop }
-{
-    all_before(stop, src.split_at(most.min(src.len())).0)
-}
 
 /// All bytes as they are, as far as the limit allows.
 fn none_part(src: &[u8], dst: &mut Vec<u8>, limit: usize) -> usize
@@ -49,11 +30,16 @@ fn none_part(src: &[u8], dst: &mut Vec<u8>, limit: usize) -> usize
     used
 }
 
-/// What to-crlf makes of an LF behind this byte.
-fn line_end(last: Option<u8>) -> &'static [u8]
-    ensures { result.now ≡ adds kind_of.ToCrlf 0 last LF }
+/// Gives the LF behind this byte, with a CR before it where there is none.
+fn put_line_end(last: Option<u8>, dst: &mut Vec<u8>)
+    requires { vec_len dst.old + length (adds kind_of.ToCrlf 0 last LF) ≤ vec_capacity dst.old }
+    ensures items { dst.new.items ≡ dst.old.items ++ adds kind_of.ToCrlf 0 last LF }
+    ensures capacity { vec_capacity dst.old ≤ vec_capacity dst.new }
 {
-    if last == Some(CR) { b"\n" } else { b"\r\n" }
+    if last != Some(CR) {
+        put_byte(dst, CR);
+    }
+    put_byte(dst, LF);
 }
 
 /// The bytes before an LF and the LF itself, as far as the limit allows.
@@ -64,13 +50,11 @@ fn to_crlf_part(known: &Knowledge, src: &[u8], dst: &mut Vec<u8>, limit: usize) 
     ensures part { AppendsPart kind_of.ToCrlf limit known.now.used known.now.last src.now dst.old.items dst.new.items result }
     ensures capacity { vec_capacity dst.old ≤ vec_capacity dst.new }
 {
-    let run = length_before(LF, src, limit - dst.len());
-    let (bytes, _) = src.split_at(run);
-    put(dst, bytes);
+    let run = put_before(LF, src, dst, limit - dst.len());
     if run == src.len() || dst.len() == limit {
         return run;
     }
-    put(dst, line_end(known.last_behind(bytes)));
+    put_line_end(known.last_behind(src.split_at(run).0), dst);
     run + 1
 }
 
@@ -101,9 +85,7 @@ fn to_lf_part(known: &Knowledge, src: &[u8], dst: &mut Vec<u8>, limit: usize) ->
     if src[0] == CR {
         return 1;
     }
-    let used = length_before(CR, src, limit - dst.len());
-    put(dst, src.split_at(used).0);
-    used
+    put_before(CR, src, dst, limit - dst.len())
 }
 
 /// The next part of a run. It uses nothing only where the next byte is bad.
