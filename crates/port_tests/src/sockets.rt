@@ -36,6 +36,7 @@ const CARRIES: &[Step] = &[
     Step::Port(&[
         Act::Writes(OUT_0, b"hi", WriteAnswer::Took(2)),
         Act::CloseWrite(OUT_0),
+        Act::Poll(&[], false, Some(0), QUIET),
     ]),
     Step::FarGets(b"hi"),
     Step::FarGets(b""),
@@ -50,6 +51,42 @@ const CARRIES: &[Step] = &[
 #[test]
 fn a_link_carries_bytes_and_their_end(rt: HostRuntime) -> Result<(), Fail> {
     assert_eq!(rt; plays(&rt, CARRIES)?, None);
+    Ok(())
+}
+
+/// A close before the next poll ends writing by itself, and a write behind an end of writing fails.
+const ENDS_AT_CLOSE: &[Step] = &[
+    Step::Marks(OUT_0, WRITING),
+    Step::Port(&[
+        Act::Writes(OUT_0, b"hi", WriteAnswer::Took(2)),
+        Act::CloseWrite(OUT_0),
+        Act::Close(OUT_0),
+    ]),
+    Step::FarGets(b"hi"),
+    Step::FarGets(b""),
+];
+
+const NO_WRITE_BEHIND: &[Step] = &[
+    Step::Marks(OUT_0, WRITING),
+    Step::Port(&[
+        Act::CloseWrite(OUT_0),
+        Act::Writes(OUT_0, b"hi", WriteAnswer::Failed),
+    ]),
+    Step::FarGets(b""),
+];
+
+const ONE_HANDS_ON_THE_OTHER: &[Step] = &[
+    Step::Port(&[Act::CloseWrite(OUT_0), Act::CloseWrite(IN_0)]),
+    Step::FarGets(b""),
+    Step::Port(&[Act::Close(OUT_0), Act::CloseWrite(IN_0)]),
+    Step::NearGets(b""),
+];
+
+#[test]
+fn an_end_of_writing_waits(rt: HostRuntime) -> Result<(), Fail> {
+    assert_eq!(rt; plays(&rt, ENDS_AT_CLOSE)?, None);
+    assert_eq!(rt; plays(&rt, NO_WRITE_BEHIND)?, None);
+    assert_eq!(rt; plays(&rt, ONE_HANDS_ON_THE_OTHER)?, None);
     Ok(())
 }
 
