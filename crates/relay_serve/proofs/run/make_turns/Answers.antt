@@ -1,4 +1,4 @@
-use Rattle.std.proofs.Common.{◌≡◌, ◌+◌, ◌-◌, ◌^◌, ◌++◌, min, Ok, Option, None, false, refl, sym, ◌∙◌, ap, subst, arith}
+use Rattle.std.proofs.Common.{◌≡◌, ◌+◌, ◌-◌, ◌^◌, ◌++◌, min, nat_lt, Ok, Option, None, false, refl, sym, ◌∙◌, ap, subst, arith}
 use Rattle.ev_types.specs.Growth.{Grew}
 use Rattle.ev_types.specs.Trace.{Trace}
 use Rattle.relay_model.specs.Settings.{Settings, settings_with}
@@ -14,7 +14,7 @@ use Rattle.relay_serve.specs.Underway.{TurnsCut, TurnsEnd}
 use Rattle.relay_serve.specs.declared.run.ServeEnd.TheVariants as serve_end
 use Rattle.relay_serve.proofs.TurnsLemmas.{begins, stands-next, stopped-next, turns-next, tied-next, closed-next, cut-closed, cut-spent}
 use Rattle.relay_serve.proofs.RestLemmas.{rests}
-use Rattle.relay_serve.proofs.StoppedLemmas.{stopped-after, none-more}
+use Rattle.relay_serve.proofs.StoppedLemmas.{stopped-after, told-when, none-more}
 use Rattle.relay_serve.proofs.WorkLemmas.{has-work, served-out}
 use Rattle.relay_serve.proofs.TurnsLemmas.{cut-else, unworn, either, same-fault, told-on, asked-told, asked-cut}
 use Rattle.relay_serve.proofs.run.make_turns.Goals as goal
@@ -96,9 +96,10 @@ returns-then-is_served_out-clause-went g c =
 -- All links were opened, so that the port was told.
 pub returns-then-is_served_out-clause-stopped : goal.returns-then-is_served_out-clause-stopped
 returns-then-is_served_out-clause-stopped g c = λ out.
-    let none = none-more c.loop.drive.state c.args.settings.now.links (sym c.is_served_out.ensures ∙ c.if-is_served_out.true) in
+    let none = ap (λ n. nat_lt n c.args.settings.now.links) c.opened.ensures
+    ∙ none-more c.loop.drive.state c.args.settings.now.links (sym c.is_served_out.ensures ∙ c.if-is_served_out.true) in
     stopped-after g.P.Port _ _ _ _ _ c.loop.invariant.stopped c.stop_accepting.ensures.told c.stop_accepting.ensures.stops
-    (grind (c.stop_accepting.ensures.told, none))
+    (told-when _ _ _ c.stop_accepting.ensures.told none)
 
 -- A hook stopped the last turn.
 pub returns-in-Ok-Stopped-clause-went : goal.returns-in-Ok-Stopped-clause-went

@@ -2,6 +2,7 @@ use Rattle.relay_drive.specs.Seats.{seated_sides}
 use Rattle.relay_serve.specs.Seen.{seen, drained}
 use Rattle.relay_serve.specs.Underway.{ended_as}
 use Rattle.relay_serve.proofs.EndLemmas.{did, reported-lasted}
+use Rattle.relay_serve.proofs.StoppedLemmas.{reported-well}
 use Rattle.relay_serve.proofs.run.relay_seated.Goals as goal
 
 pub returns-clause-did : goal.returns-clause-did
@@ -15,3 +16,8 @@ returns-clause-did g c =
 pub returns-clause-asked : goal.returns-clause-asked
 returns-clause-asked g c = λ lasted. c.run-ended.ensures.asked
     (reported-lasted (ended_as c.run-ended.result) c.report.result _ _ _ c.report.ensures.reported lasted)
+
+-- and one that ended well was served out
+pub returns-clause-stopped : goal.returns-clause-stopped
+returns-clause-stopped g c = λ well. c.run-ended.ensures.stopped
+    (reported-well c.run-ended.result c.report.result _ _ _ c.report.ensures.reported well)
