@@ -9,14 +9,14 @@ use Rattle.mio_port.specs.declared.kernel.Kernel.{Kernel}
 use Rattle.mio_port.specs.declared.mio_port.MioPort.{MioPort}
 use Rattle.mio_port.specs.Acceptor.{after_time, is_open}
 use Rattle.mio_port.specs.Asking.{Looked, PollLooked}
-use Rattle.mio_port.specs.EndPlaces.{handed_on}
+use Rattle.mio_port.specs.EndPlaces.{all_handed_on}
 use Rattle.mio_port.specs.Waiting.{longest_wait}
 
 -- A poll that handed on what was pending, read this time, found this ready, and looked so. What came behind the look left the kernel, the
 -- ends and the ready bit.
 pub looked-at : {R : Type 0} (any accept : Bool) (timeout : Option ℕ) (old mid new : MioPort R) (answer : Polled) (time : ℕ) (is_any : Bool)
     (pause most : Option ℕ) (kernel : Option Kernel) (ends : List (Option End)) (ready worked : Bool) → old.clock.last ≤ time → mid.kernel ≡ old.kernel
-    → mid.ends.ends.items ≡ handed_on old.ends.ends.items → mid.acceptor ≡ after_time old.acceptor time
+    → mid.ends.ends.items ≡ all_handed_on old.ends.ends.items → mid.acceptor ≡ after_time old.acceptor time
     → pause ≡ option_map (λ to. to - time) mid.acceptor.paused_to
     → is_any ≡ (any || (accept && is_open mid.acceptor)) → most ≡ longest_wait is_any accept timeout pause
     → Looked is_any most mid.kernel kernel mid.ends.ends.items ends mid.acceptor.ready ready worked

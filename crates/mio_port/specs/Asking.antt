@@ -8,7 +8,7 @@ use Rattle.mio_port.specs.declared.end.End.{End}
 use Rattle.mio_port.specs.declared.kernel.Kernel.{Kernel}
 use Rattle.mio_port.specs.declared.mio_port.MioPort.{MioPort}
 use Rattle.mio_port.specs.Acceptor.{after_time, is_open}
-use Rattle.mio_port.specs.EndPlaces.{handed_on}
+use Rattle.mio_port.specs.EndPlaces.{all_handed_on}
 use Rattle.mio_port.specs.Reports.{AsReported}
 use Rattle.mio_port.specs.Waiting.{looks_after, is_due, longest_wait}
 
@@ -50,4 +50,4 @@ pub record PollLooked {R : Type 0} (any_ready accept : Bool) (timeout : Option â
   pub looked : let acceptor : Acceptor = after_time old.acceptor time in
       let is_any : Bool = any_ready || (accept && is_open acceptor) in
       Looked is_any (longest_wait is_any accept timeout (option_map (Î» to. to - time) acceptor.paused_to)) old.kernel new.kernel
-      (handed_on old.ends.ends.items) new.ends.ends.items old.acceptor.ready new.acceptor.ready (not (is_failed_poll answer))
+      (all_handed_on old.ends.ends.items) new.ends.ends.items old.acceptor.ready new.acceptor.ready (not (is_failed_poll answer))

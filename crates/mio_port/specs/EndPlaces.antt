@@ -80,13 +80,13 @@ is_ending None = false
 is_ending (Some e) = e.ending
 
 -- of at most one number: this is it
-abbrev pub is_at : Option ℕ → ℕ → Bool
-is_at None n = false
-is_at (Some at) n = n == at
+abbrev pub is_at_number : Option ℕ → ℕ → Bool
+is_at_number None n = false
+is_at_number (Some at) n = n == at
 
 -- all ends, after what was pending is handed to the system
-abbrev pub handed_on : List (Option End) → List (Option End)
-handed_on ends = map (option_map handed_on_end) ends
+abbrev pub all_handed_on : List (Option End) → List (Option End)
+all_handed_on ends = map (option_map handed_on_end) ends
 
 abbrev pub can_read : List (Option End) → Want → Bool
 can_read ends want = want.read && is_read_ready (slice_index_or ends (number want.side) None)

@@ -217,7 +217,7 @@ impl End {
         ensures within { WriteWithin result (length from.now) }
         ensures cause { Counted self.old.faults self.new.faults (is_failed_write result) }
         ensures other_way { self.new.read_ready ≡ self.old.read_ready }
-        ensures handed_on { self.new.ending ≡ false }
+        ensures all_handed_on { self.new.ending ≡ false }
         ensures by { WrittenBy (Some self.old.connection) result }
         ensures left { WriteLeft from.now result self.old self.new }
     {

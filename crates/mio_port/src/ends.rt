@@ -10,7 +10,8 @@ ghost use Rattle.mio_port.specs.EndAnswers.{connection_at, ReadBy, WrittenBy, Ch
 ghost use Rattle.mio_port.specs.EndLeft.{PlaceLeft, ReadLeft, WriteLeft, CheckLeft};
 ghost use Rattle.mio_port.specs.PortCalls.{OthersStay};
 ghost use Rattle.mio_port.specs.OneEnd.{noticed_end, ended_end, closed_end};
-ghost use Rattle.mio_port.specs.EndPlaces.{CountsStay, CountsAt, PlacesStay, PlaceWent, handed_on, holds, is_at, is_ending, is_made};
+ghost use Rattle.mio_port.specs.EndPlaces.{CountsStay, CountsAt, PlacesStay, PlaceWent, all_handed_on, holds, is_at_number};
+ghost use Rattle.mio_port.specs.EndPlaces.{is_ending, is_made};
 ghost use Rattle.mio_port.specs.EndPlaces.{came_short, is_bulky, is_prompt, is_write_ready, can_read, can_write, wants_ready};
 ghost use Rattle.mio_port.specs.EndPlaces.{marked, unmarked};
 ghost use Rattle.mio_port.specs.ReadTurns.{ListedInTurn, drains_now, marked_with, other_end};
@@ -45,7 +46,7 @@ pub(crate) struct Ends {
     ghost prompt_room: { vec_len ends ≤ prompt.len },
     ghost bulky_room: { vec_len ends ≤ bulky.len },
     ghost write_room: { vec_len ends ≤ writable.len },
-    ghost pendings: { (n : ℕ) → is_ending (slice_index_or ends.items n None) ≡ is_at pending n },
+    ghost pendings: { (n : ℕ) → is_ending (slice_index_or ends.items n None) ≡ is_at_number pending n },
 }
 
 pub(crate) fn in_end(link: u32) -> SideId
@@ -121,7 +122,7 @@ fn came_short(ends: &[Option<End>], number: usize) -> bool
 
 // Nothing is pending any more of the end with this number.
 fn settle(pending: &mut Option<usize>, number: usize)
-    ensures { (n : ℕ) → is_at pending.new n ≡ (if n == number then false else is_at pending.old n) }
+    ensures { (n : ℕ) → is_at_number pending.new n ≡ (if n == number then false else is_at_number pending.old n) }
 {
     if *pending == Some(number) {
         *pending = None;
@@ -395,7 +396,7 @@ impl Ends {
     /// The writing of this end is to be ended, and an end of writing that was pending is handed to the system.
     pub(crate) fn close_write(&mut self, side: SideId)
         ensures counts { CountsStay self.old.ends.items self.new.ends.items }
-        ensures went { PlaceWent (handed_on self.old.ends.items) self.new.ends.items (number side) ended_end }
+        ensures went { PlaceWent (all_handed_on self.old.ends.items) self.new.ends.items (number side) ended_end }
     {
         self.hand_on();
         let number = side.number();
@@ -417,7 +418,7 @@ impl Ends {
     /// Hands to the system the end of writing that is pending, if one is.
     pub(crate) fn hand_on(&mut self)
         ensures counts { CountsStay self.old.ends.items self.new.ends.items }
-        ensures ends { self.new.ends.items ≡ handed_on self.old.ends.items }
+        ensures ends { self.new.ends.items ≡ all_handed_on self.old.ends.items }
         ensures none { self.new.pending ≡ None }
     {
         let Some(number) = self.pending.take() else {

@@ -20,7 +20,7 @@ ghost use Rattle.mio_port.specs.EndAnswers.{connection_at, ReadBy, WrittenBy, Ch
 ghost use Rattle.mio_port.specs.Acceptor.{shut_acceptor};
 ghost use Rattle.mio_port.specs.EndLeft.{CheckLeft, NewEnds, PlaceLeft, ReadLeft, WriteLeft};
 ghost use Rattle.mio_port.specs.OneEnd.{ended_end, closed_end};
-ghost use Rattle.mio_port.specs.EndPlaces.{PlaceWent, handed_on, holds, wants_ready};
+ghost use Rattle.mio_port.specs.EndPlaces.{PlaceWent, all_handed_on, holds, wants_ready};
 ghost use Rattle.mio_port.specs.Kernels.{watch_of, HasSpare};
 ghost use Rattle.mio_port.specs.Asking.{PollLooked};
 ghost use Rattle.mio_port.specs.PollLeft.{PollLeft};
@@ -362,7 +362,7 @@ impl<'a, R: Net + Clock + AllocGlobal> Port for MioPort<'a, R> {
     }
 
     fn close_write(&mut self, end: SideId)
-        ensures ended { PlaceWent (handed_on self.old.ends.ends.items) self.new.ends.ends.items (number end) ended_end }
+        ensures ended { PlaceWent (all_handed_on self.old.ends.ends.items) self.new.ends.ends.items (number end) ended_end }
         ensures others { self.new ≡ record self.old { ends = self.new.ends } }
 
         // What every port says.

@@ -29,7 +29,7 @@ pub(crate) fn write_at(place: &mut Option<End>, from: &[u8]) -> WriteAnswer
     requires { 0 < length from.now }
     ensures within { WriteWithin result (length from.now) }
     ensures cause { Counted (faults_of place.old) (faults_of place.new) (is_failed_write result) }
-    ensures handed_on { is_ending place.new ≡ false }
+    ensures all_handed_on { is_ending place.new ≡ false }
     ensures by { WrittenBy (connection_of place.old) result }
     ensures left { LeftAt (WriteLeft from.now result) place.old place.new }
 {

@@ -8,7 +8,7 @@ use Rattle.ev_port.specs.declared.scribe.Scribe as scribe
 use Rattle.ev_port.specs.declared.stream.Sink as sink
 use Rattle.ev_port.specs.Faults.{Faults}
 
--- It was told at some time that no more links will be asked for: of a port of which no more is known only that call has it that this was so.
+-- It was told at some time that no more links will be asked for: of a port of which no more is known only that call gives this.
 abbrev pub WasStopped : {P : Type 0} → port.Ghosts P → Type 0
 WasStopped {P} p = (old : P) × (new : P) × p.stops old new
 

@@ -76,7 +76,7 @@ impl<R: Net + Clock + AllocGlobal> MioPort<'_, R> {
         is_any_ready || accept && self.acceptor.is_open()
     }
 
-    // What every poll does before anything is marked, and its answer. An end of writing that is pending is handed on before it waits, and it
+    // What every poll does before anything is marked, and its answer. An end of writing that is pending is handed on before it waits. It
     // doesn't wait where something wanted is ready.
     fn wait(&mut self, is_any_ready: bool, accept: bool, timeout: Option<u64>) -> Polled
         ensures left { PollLeft self.old self.new result }
@@ -100,7 +100,7 @@ impl<R: Net + Clock + AllocGlobal> MioPort<'_, R> {
 
     // Whether the kernel could be asked, if it was. Nothing is pending while it is waited for.
     fn look(&mut self, is_any: bool, most: Option<u64>) -> bool
-        requires handed_on { self.old.ends.pending ≡ None }
+        requires all_handed_on { self.old.ends.pending ≡ None }
         ensures cause { FaultsStay (mio_faults self.old) (mio_faults self.new) }
         ensures heard { AllHeard self.old.ends.ends.items self.new.ends.ends.items }
         ensures listener { self.new.acceptor ≡ record self.old.acceptor { ready = self.new.acceptor.ready } }

@@ -1,5 +1,5 @@
 use Rattle.std.proofs.Common.{◌≡◌, ◌≢◌, ◌<◌, ◌+◌, ◌*◌, ◌||◌, false, length, None, Some, get_or, set, arith, rules}
-use Rattle.mio_port.specs.EndPlaces.{is_at, is_bulky, is_prompt, is_there, is_write_ready}
+use Rattle.mio_port.specs.EndPlaces.{is_at_number, is_bulky, is_prompt, is_there, is_write_ready}
 use Rattle.mio_port.proofs.PutLemmas.{put-both, put-one}
 use Rattle.mio_port.proofs.ends.Ends.put.Goals as goal
 
@@ -44,5 +44,5 @@ invariant_of-self-clause-pendings c =
     let within : near < length items = omega (arith, near_is, room) in
     let also : far < length items = omega (arith, far_is, room) in
     let none : (is_there (get_or items near None) || is_there (get_or items far None)) ≡ false = rw near_is (rw far_is c.requires.new) in
-    put-both items near far c.args.inside c.args.outside (is_at ends.pending) differ within also ends.pendings none
+    put-both items near far c.args.inside c.args.outside (is_at_number ends.pending) differ within also ends.pendings none
     c.requires.not_ending_in c.requires.not_ending_out
