@@ -2,8 +2,10 @@
 use Rattle.std.specs.Prelude.{◌≡◌, ℕ, Bool, List}
 use Rattle.token_bucket.specs.declared.limit.Dir.{Dir}
 use Rattle.token_bucket.specs.declared.limit.Dir.TheVariants.{Read, Write}
+use Rattle.ev_types.specs.declared.filter.FilterKind.{FilterKind}
 use Rattle.filter_model.specs.Running.{Running}
-use Rattle.bev_core.specs.BevValue.{BevValue}
+use Rattle.filter_model.specs.FilterStep.{begun}
+use Rattle.bev_core.specs.BevValue.{BevValue, new_chunked}
 use Rattle.bev_core.specs.Steps.{held, with_held, touched, freed, more, given_up}
 use Rattle.bev_filter.specs.Passing.{Crossing, Crossed, stepping}
 use Rattle.bev_world.specs.declared.slot.Slot.{Slot}
@@ -35,6 +37,15 @@ roomless w n = with_slot w n (record (slot_at w n) { bev = given_up (bev_at w n)
 -- it alone is freed, and what is due stays so
 abbrev pub dropped : WorldValue → ℕ → WorldValue
 dropped w n = with_slot w n (record (slot_at w n) { bev = freed (bev_at w n); room = 0 })
+
+-- it is new, with filters of these kinds, and what carries its bytes stays
+abbrev pub renewed : WorldValue → ℕ → FilterKind → FilterKind → WorldValue
+renewed w n input output = with_slot w n (record (slot_at w n) {
+  bev = new_chunked w.chunked;
+  room = 0;
+  read_filter = begun input;
+  write_filter = begun output;
+})
 
 -- Whose buffer the bytes of a direction come to: what is read comes to the filter's own, what is written to that of the one under it.
 abbrev pub target_of : Dir → ℕ → ℕ → ℕ

@@ -1,7 +1,7 @@
-// A world of bufferevents, each known by a number that is never used again.
+// A world of bufferevents, each known by a number.
 //
 // What a world keeps:
-// 1. A freed bufferevent stays freed, and keeps its number and its plain values.
+// 1. A freed bufferevent stays freed, and keeps its number and its plain values, unless it is made new by its number.
 // 2. The other half of a half is another bufferevent, and what is under a filter was made before it.
 // 3. There is room for a pending entry of every bufferevent, so that no reason is lost.
 // 4. There is room for `spare` bufferevents more and for an entry of each, so that making them takes no memory.
@@ -42,7 +42,7 @@ use std::marker::Model;
 /// room go at once.
 ///
 /// Libevent: event2/bufferevent.h, `bufferevent`; "Bufferevents: concepts and basics".
-/// Differs: a bufferevent is named by a number, which is never used again, so that a callback may free any of them.
+/// Differs: a bufferevent is named by a number, which only `renew_at` uses again, so that a callback may free any of them.
 #[derive(Drop)]
 pub struct World {
     alloc: Global,

@@ -6,13 +6,16 @@ ghost use Rattle.ev_types.specs.declared.filter.FilterKind.TheVariants as filter
 ghost use Rattle.bev_world.specs.declared.slot.Kind.TheVariants as kind_of;
 ghost use Rattle.bev_world.specs.declared.fault.WorldFault.TheVariants.{Memory};
 ghost use Rattle.bev_world.specs.Refusals.{ids_refusal, filter_refusal};
+ghost use Rattle.bev_world.specs.ByNumber.{renewed};
 ghost use Rattle.bev_world.specs.Went.{Went};
 ghost use Rattle.bev_world.specs.WorldValue.{made_slot, pair_slots, with_new, with_room, with_taken};
 
 use super::World;
 use crate::fault::WorldFault;
 use crate::slot::{Kind, Slot};
+use bev_core::Bev;
 use ev_types::{BevId, FilterKind, NoMemory};
+use stream_filters::AnyFilter;
 
 impl World {
     /// Makes room for so many bufferevents more and for what is due at them, so that the calls that make them can't want memory.
@@ -159,5 +162,21 @@ impl World {
             return Err(WorldFault::IdsSpent);
         }
         Ok(number)
+    }
+
+    /// Makes the bufferevent of a number new, with filters of these kinds: what it was is dropped, freed or not. What carries its bytes
+    /// stays, and so does whether a filter is over it, and what is due for it. Takes no memory; constant cost.
+    ///
+    /// Own.
+    pub fn renew_at(&mut self, at: usize, input: FilterKind, output: FilterKind)
+        requires { at < length self.old.slots }
+        ensures { self.new ≡ renewed self.old at input output }
+    {
+        let bev = Bev::made(self.alloc, self.chunked);
+        let slot = &mut self.slots[at];
+        slot.bev = bev;
+        slot.room = 0;
+        slot.read_filter = AnyFilter::new(input);
+        slot.write_filter = AnyFilter::new(output);
     }
 }
