@@ -16,6 +16,7 @@ pub mod RoundLemmas
 pub mod SettledLemmas
 pub mod ReaderLemmas
 pub mod OpenLemmas
+pub mod ReopenLemmas
 pub mod RoomLemmas
 pub mod GivenUpLemmas
 pub mod ServeLemmas

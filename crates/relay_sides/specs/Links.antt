@@ -90,6 +90,16 @@ with_link time turn near far k = record {
   gauges = k.gauges ++ gauge_begun near.limit time ∷ gauge_begun far.limit time ∷ [];
 }
 
+-- a link of before has the two sides of a new one, and the directions between them
+abbrev pub with_new_link : ℕ → ℕ → ℕ → NewSide → NewSide → Links → Links
+with_new_link link time turn near far k =
+    let a = in_side link in
+    let b = out_side link in
+    let sided : Links = put_side b (opening_side time turn far) (put_side a (opening_side time turn near) k) in
+    let flowing : Links = put_flow b no_flow (put_flow a no_flow sided) in
+    let laned : Links = put_lane b (fresh_lane far.read near.write) (put_lane a (fresh_lane near.read far.write) flowing) in
+    put_gauge b (gauge_begun far.limit time) (put_gauge a (gauge_begun near.limit time) laned)
+
 -- Limits
 
 -- what a side's own limit leaves it to move in a direction at a time

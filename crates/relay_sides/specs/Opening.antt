@@ -1,9 +1,10 @@
 -- The two bufferevents of a side whose link opens, whose buffers may lie in several chunks, or not.
-use Rattle.std.specs.Prelude.{ℕ, ◌+◌, Bool, true, List, [], ◌∷◌, Option, Some, None}
+use Rattle.std.specs.Prelude.{ℕ, ◌+◌, Bool, true, List, [], ◌∷◌, slice_index_or, slice_set, Option, Some, None}
 use Rattle.ev_types.specs.declared.filter.FilterKind.TheVariants as kind
 use Rattle.token_bucket.specs.declared.limit.LimitCfg.{LimitCfg}
+use Rattle.filter_model.specs.FilterStep.{begun}
 use Rattle.bev_core.specs.BevValue.{BevValue, new_chunked}
-use Rattle.bev_world.specs.WorldValue.{made_slot}
+use Rattle.bev_world.specs.WorldValue.{made_slot, no_slot}
 use Rattle.bev_world.specs.declared.slot.Slot.{Slot}
 use Rattle.bev_world.specs.declared.slot.Kind.TheVariants.{Socket, Filter}
 use Rattle.relay_sides.specs.declared.opening.NewSide.{NewSide}
@@ -27,6 +28,17 @@ abbrev pub side_slots : Bool → ℕ → NewSide → ℕ → List Slot
 side_slots chunked time side n =
     record (made_slot chunked Socket kind.None kind.None) { bev = opening_bev chunked time side; taken = true }
     ∷ made_slot chunked (Filter n) side.read side.write ∷ []
+
+-- both made new in the place of two of before, the first of which has this number
+abbrev pub side_renewed : Bool → ℕ → NewSide → ℕ → List Slot → List Slot
+side_renewed chunked time side n slots =
+    let first = slice_index_or slots n no_slot in
+    let second = slice_index_or slots (n + 1) no_slot in
+    let none = begun kind.None in
+    slice_set
+    (slice_set slots n (record first { bev = opening_bev chunked time side; room = 0; read_filter = none; write_filter = none }))
+    (n + 1)
+    (record second { bev = new_chunked chunked; room = 0; read_filter = begun side.read; write_filter = begun side.write })
 
 -- for how many limits there must be room
 abbrev pub limits_in : Option LimitCfg → ℕ

@@ -1,14 +1,14 @@
 // Opening links.
 ghost use Rattle.std.specs.Prelude.{◌≡◌, ◌≤◌, ◌<◌, ◌+◌, ◌-◌, ◌^◌, ◌++◌, length, OnOk, IsOk};
-ghost use Rattle.relay_sides.specs.Links.{with_link};
-ghost use Rattle.relay_sides.specs.Opening.{side_slots, limits_of};
+ghost use Rattle.relay_sides.specs.Links.{with_link, with_new_link};
+ghost use Rattle.relay_sides.specs.Opening.{side_slots, side_renewed, limits_of};
 
 use crate::limits::SpareLimits;
-use crate::side::SideState;
+use crate::side::{SideState, lower};
 use crate::sides::Sides;
 use bev_core::Dir;
 use bev_world::World;
-use ev_types::{FilterKind, LimitCfg, Marks, NoMemory, Timeouts};
+use ev_types::{FilterKind, LimitCfg, Marks, NoMemory, Side, SideId, Timeouts};
 
 /// What a side gets as its link opens: its marks and timeouts, its two filters, its limit and its group, and whether its end is
 /// connected.
@@ -74,6 +74,37 @@ impl Sides {
         self.sides.push(far_state).unwrap();
         self.opened += 1;
     }
+
+    /// Opens a link of before anew, in a turn and at its time, with memory for the limits of its sides that was made before: it has two
+    /// new sides, and what it had is dropped. Takes no memory; constant.
+    ///
+    /// Own.
+    pub fn reopen(
+        &mut self,
+        link: u32,
+        near: NewSide,
+        far: NewSide,
+        time: u64,
+        turn: u64,
+        spare: &mut SpareLimits,
+    )
+        requires opened { link < self.old.links.opened }
+        requires limits { limits_of near far ≤ spare.old }
+        ensures links { self.new.links ≡ with_new_link link time turn near far self.old.links }
+        ensures spare { spare.old ≤ spare.new + limits_of near far }
+    {
+        let first = SideId {
+            link,
+            side: Side::In,
+        };
+        let near_limit = spare.take_first(near.limit, time, turn);
+        let far_limit = spare.take_first(far.limit, time, turn);
+        self.readable = 0;
+        renew_bevs(&mut self.world, lower(first), near, time);
+        renew_bevs(&mut self.world, lower(first.peer()), far, time);
+        self.sides[first.number()] = SideState::new(near.connected, near_limit, near.group);
+        self.sides[first.peer().number()] = SideState::new(far.connected, far_limit, far.group);
+    }
 }
 
 /// Makes the two bufferevents of a side, in room that was made before: that of its end, and a filter over it.
@@ -101,4 +132,27 @@ fn add_bevs(world: &mut World, side: NewSide, time: u64)
         .unwrap();
     world.set_timeouts(id, read_ms, write_ms, time).unwrap();
     let _over = world.new_filter(id, side.read, side.write).unwrap();
+}
+
+/// Makes the two bufferevents of a side new, of which this is the number of the first.
+fn renew_bevs(world: &mut World, at: usize, side: NewSide, time: u64)
+    requires there { at + 1 < length world.old.slots }
+    requires numbers { at + 1 < 2 ^ 64 }
+    ensures slots { world.new.slots ≡ side_renewed world.old.chunked time side at world.old.slots }
+    ensures chunked { world.new.chunked ≡ world.old.chunked }
+    ensures spare { world.new.spare ≡ world.old.spare }
+{
+    let Marks {
+        read_low,
+        read_high,
+        write_low,
+        write_high,
+    } = side.marks;
+    let Timeouts { read_ms, write_ms } = side.timeouts;
+    world.renew_at(at, FilterKind::None, FilterKind::None);
+    world.enable_at(at, Dir::Read);
+    world.set_watermark_at(at, Dir::Read, read_low, read_high);
+    world.set_watermark_at(at, Dir::Write, write_low, write_high);
+    world.set_timeouts_at(at, read_ms, write_ms, time);
+    world.renew_at(at + 1, side.read, side.write);
 }
