@@ -1,0 +1,21 @@
+use Rattle.relay_sides.specs.Links.{change_side}
+use Rattle.relay_pool.proofs.CallLemmas.{lifts_change}
+use Rattle.relay_model.specs.Moments.{active_at}
+use Rattle.relay_pool.proofs.BayLemmas.{bay_open, below_met, links_bay}
+use Rattle.relay_pool.proofs.pool.LinkPool.be_active.Goals as goal
+
+pub at-requires-clause-there : goal.at-requires-clause-there
+at-requires-clause-there c =
+    bay_open c.args.self.now c.self.inside c.self.view_is c.self.invariant c.args.side c.requires.opened c.requires.«open»
+
+pub be_active-requires : goal.be_active-requires
+be_active-requires c =
+    below_met c.args.self.now c.self.inside c.self.view_is c.self.invariant c.args.side c.requires.opened c.at.result c.at.ensures
+    (bay_open c.args.self.now c.self.inside c.self.view_is c.self.invariant c.args.side c.requires.opened c.requires.«open»)
+
+pub returns : goal.returns
+returns c =
+    links_bay c.args.self.now c.self.inside c.self.view_is c.self.invariant c.args.side c.requires.opened c.at.result c.at.ensures
+    (bay_open c.args.self.now c.self.inside c.self.view_is c.self.invariant c.args.side c.requires.opened c.requires.«open»)
+    (λ e k. change_side e (active_at c.args.time c.args.dir) k) (lifts_change (active_at c.args.time c.args.dir))
+    c.be_active.new.self.links c.be_active.ensures

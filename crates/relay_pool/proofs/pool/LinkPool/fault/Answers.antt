@@ -1,0 +1,20 @@
+use Rattle.std.proofs.Common.{ap, ◌∙◌}
+use Rattle.relay_model.specs.Close.{fault}
+use Rattle.relay_pool.proofs.BayLemmas.{bay_open, below_met, side_met}
+use Rattle.relay_pool.proofs.pool.LinkPool.fault.Goals as goal
+
+pub at-requires-clause-there : goal.at-requires-clause-there
+at-requires-clause-there c =
+    bay_open c.args.self.now c.self.inside c.self.view_is c.self.invariant c.args.side c.requires.opened c.requires.«open»
+
+pub fault-requires : goal.fault-requires
+fault-requires c =
+    below_met c.args.self.now c.self.inside c.self.view_is c.self.invariant c.args.side c.requires.opened c.at.result c.at.ensures
+    (bay_open c.args.self.now c.self.inside c.self.view_is c.self.invariant c.args.side c.requires.opened c.requires.«open»)
+
+pub returns : goal.returns
+returns c =
+    let b = bay_open c.args.self.now c.self.inside c.self.view_is c.self.invariant c.args.side c.requires.opened c.requires.«open» in
+    let side = side_met c.args.self.now c.self.inside c.self.view_is c.self.invariant c.args.side c.requires.opened c.at.result
+    c.at.ensures b in
+    c.fault.ensures ∙ ap fault side

@@ -1,0 +1,27 @@
+use Rattle.relay_sides.specs.Links.{change_side}
+use Rattle.relay_pool.proofs.CallLemmas.{lifts_change}
+use Rattle.relay_pool.proofs.BayLemmas.{bay_open, below_met, links_bay}
+use Rattle.relay_pool.proofs.pool.LinkPool.set_timeouts.Goals as goal
+
+pub at-requires-clause-there : goal.at-requires-clause-there
+at-requires-clause-there c =
+    bay_open c.args.self.now c.self.inside c.self.view_is c.self.invariant c.args.side c.requires.opened c.requires.«open»
+
+pub set_timeouts-requires : goal.set_timeouts-requires
+set_timeouts-requires c =
+    below_met c.args.self.now c.self.inside c.self.view_is c.self.invariant c.args.side c.requires.opened c.at.result c.at.ensures
+    (bay_open c.args.self.now c.self.inside c.self.view_is c.self.invariant c.args.side c.requires.opened c.requires.«open»)
+
+pub returns : goal.returns
+returns c =
+    links_bay c.args.self.now c.self.inside c.self.view_is c.self.invariant c.args.side c.requires.opened c.at.result c.at.ensures
+    (bay_open c.args.self.now c.self.inside c.self.view_is c.self.invariant c.args.side c.requires.opened c.requires.«open»)
+    (λ e k. change_side e (λ x. record x {
+      timeouts = record { read_ms = c.args.read_ms; write_ms = c.args.write_ms };
+      last_read = c.args.time;
+      last_write = c.args.time;
+    }) k) (lifts_change (λ x. record x {
+      timeouts = record { read_ms = c.args.read_ms; write_ms = c.args.write_ms };
+      last_read = c.args.time;
+      last_write = c.args.time;
+    })) c.set_timeouts.new.self.links c.set_timeouts.ensures

@@ -1,0 +1,29 @@
+use Rattle.std.proofs.Common.{true, false}
+use Rattle.relay_sides.specs.Links.{change_side}
+use Rattle.relay_pool.proofs.CallLemmas.{lifts_change, lifts_changed}
+use Rattle.relay_pool.specs.Over.{with_change}
+use Rattle.relay_pool.specs.declared.change.Change.TheVariants as change
+use Rattle.relay_pool.proofs.BayLemmas.{links_bay, links_left, pooled_over}
+use Rattle.relay_pool.proofs.pool.LinkPool.write_failed.Goals as goal
+
+pub invariant_of-self-in-None : goal.invariant_of-self-in-None
+invariant_of-self-in-None c =
+    pooled_over c.args.self.now c.self.inside c.self.view_is c.self.invariant c.args.side c.requires c.in-None.ensures (λ e k.
+    with_change (change.WriteFailed) e k)
+    (lifts_changed (change.WriteFailed)) c.change_left.new.links c.change_left.ensures
+
+pub returns-in-Some : goal.returns-in-Some
+returns-in-Some c =
+    links_bay c.args.self.now c.self.inside c.self.view_is c.self.invariant c.args.side c.requires c.in-Some.at c.in-Some.ensures.1
+    c.in-Some.ensures.0
+    (λ e k. change_side e (λ x. record x { failed = true; writes = false }) k) (lifts_change (λ x. record x {
+      failed = true;
+      writes =
+          false;
+    })) c.write_failed.new.self.links c.write_failed.ensures
+
+pub returns-in-None : goal.returns-in-None
+returns-in-None c =
+    links_left c.args.self.now c.self.inside c.self.view_is c.self.invariant c.args.side c.requires c.in-None.ensures (λ e k.
+    with_change (change.WriteFailed) e k) (lifts_changed (change.WriteFailed))
+    c.change_left.new.links c.change_left.ensures

@@ -1,0 +1,4 @@
+pub mod Over
+pub mod Stays
+pub mod PoolValue
+pub mod PoolView

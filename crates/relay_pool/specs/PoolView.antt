@@ -1,0 +1,62 @@
+-- How a pool keeps its links: those that are not over in the bays of `relay_sides`, where each bay has at most one, and what is left of
+-- the others.
+use Rattle.std.specs.Prelude.{◌≡◌, ◌<◌, ◌+◌, ◌*◌, ◌/◌, ◌%◌, ◌^◌, ℕ, ◌&&◌, nat_lt, if◌then◌else◌, List, length, slice_index_or, slice_get}
+use Rattle.std.specs.Prelude.{Option, Some, None, IfSome, vec_len, vec_capacity}
+use Rattle.relay_model.specs.Plain.{no_side}
+use Rattle.relay_model.specs.Flow.{no_flow}
+use Rattle.relay_state.specs.Running.{no_gauge}
+use Rattle.relay_state.specs.State.{no_lane}
+use Rattle.relay_sides.specs.Links.{Links}
+use Rattle.relay_sides.specs.Pairs.{HasPairs}
+use Rattle.relay_sides.specs.Table.{tabulate}
+use Rattle.relay_pool.specs.Stays.{links_with, link_in, stay_at, IsStay}
+use Rattle.relay_pool.specs.PoolValue.{PoolValue}
+use Rattle.relay_pool.specs.declared.pool.LinkPool.TheInside.{Inside}
+use Rattle.relay_pool.specs.declared.stay.Stay.{Stay}
+use Rattle.relay_pool.specs.declared.stay.Stay.TheVariants as stay
+
+-- what one of the lists has of the side, or the direction, of a number
+abbrev pub part_at : {A : Type 0} → (Links → List A) → A → Links → List Stay → ℕ → A
+part_at get none k stays n =
+    let x = stay_at stays (n / 2) in slice_index_or (get (links_with k x)) (2 * link_in x + n % 2) none
+
+abbrev pub links_seen : List Stay → Links → Links
+links_seen stays k = record {
+  opened = length stays;
+  sides = tabulate (part_at (λ (x : Links). x.sides) no_side k stays) (2 * length stays);
+  flows = tabulate (part_at (λ (x : Links). x.flows) no_flow k stays) (2 * length stays);
+  lanes = tabulate (part_at (λ (x : Links). x.lanes) no_lane k stays) (2 * length stays);
+  gauges = tabulate (part_at (λ (x : Links). x.gauges) no_gauge k stays) (2 * length stays);
+}
+
+-- for how many bytes of a read there is room at a side: none at one of a link that is over
+abbrev pub room_in : List ℕ → Stay → ℕ → ℕ
+room_in reads (stay.Bay bay) n = slice_index_or reads (2 * bay + n) 0
+room_in reads (stay.Over over) n = 0
+
+-- A link more has a bay that was given back, or a new one.
+abbrev pub bays_of : Inside → ℕ
+bays_of r = if nat_lt (vec_len r.owners) (vec_capacity r.owners) then r.sides.spare_links else 0
+
+abbrev pub room_for : Inside → Option ℕ → ℕ
+room_for r (Some bay) = 1
+room_for r None = bays_of r
+
+abbrev pub links_spare : Inside → ℕ
+links_spare r =
+    if nat_lt (length r.links.items + 1) (2 ^ 32) && nat_lt (vec_len r.links) (vec_capacity r.links) then room_for r r.ready else 0
+
+abbrev pub pool_of : Inside → PoolValue
+pool_of r = record {
+  links = links_seen r.links.items r.sides.links;
+  spare_links = links_spare r;
+  spare_reads = tabulate (λ n. room_in r.sides.spare_reads (stay_at r.links.items (n / 2)) (n % 2)) (2 * length r.links.items);
+}
+
+-- Each bay has an owner or none. The one that is ready for the next link has none.
+pub record ArePooled (r : Inside) : Type 0 where
+  pub pairs : HasPairs r.sides.links
+  pub bays : length r.owners.items ≡ r.sides.links.opened
+  pub few : length r.links.items < 2 ^ 32
+  pub stays : (link : ℕ) → link < length r.links.items → IsStay r.owners.items link (stay_at r.links.items link)
+  pub ready : IfSome r.ready (λ bay. slice_get r.owners.items bay ≡ Some None)
