@@ -5,7 +5,7 @@ use Rattle.std.proofs.Common.{◌≡◌, ◌≢◌, ℕ, zero, suc, ◌+◌, ◌
 use Rattle.std.proofs.Common.{List, [], ◌∷◌, ◌++◌, length, Option, Some, None, Result, Ok, Err, MatchResult, inl, inr, refl, sym, ◌∙◌, ap}
 use Rattle.std.proofs.Common.{subst, arith}
 use Rattle.std.proofs.lemmas.Bool.Decides.{eqb_tells}
-use Rattle.std.proofs.lemmas.List.{get_or-set_other, get_or_append_left, set-get_or}
+use Rattle.std.proofs.lemmas.List.{get_or-set_other, get_or_append_left}
 use Rattle.std.specs.Map.{remove_entry}
 use Rattle.token_bucket.specs.declared.limit.Dir.{Dir}
 use Rattle.token_bucket.specs.declared.limit.Dir.TheVariants as dir
@@ -30,7 +30,7 @@ use Rattle.relay_sides.specs.Links as links
 use Rattle.relay_sides.specs.Links.{Links, change_side, with_link}
 use Rattle.relay_sides.specs.LinkPasses.{PassedLink, PartlyPassedLink}
 use Rattle.relay_sides.specs.declared.opening.NewSide.{NewSide}
-use Rattle.relay_sides.specs.SidesValue.{SidesValue}
+use Rattle.relay_pool.specs.PoolValue.{PoolValue}
 use Rattle.relay_core.specs.RelayView.{IsSound, IsSoundSide}
 use Rattle.relay_core.specs.declared.ctl.Ctl.TheInside.{Inside}
 use Rattle.relay_core.proofs.RelayLemmas.{still_sound}
@@ -69,14 +69,14 @@ pub alike-active : (time : ℕ) (d : Dir) (x : PlainSide) → IsAlike x (active_
 alike-active time dir.Read x = record { live = refl; timeouts = refl; expired = refl; limit = refl }
 alike-active time dir.Write x = record { live = refl; timeouts = refl; expired = refl; limit = refl }
 
--- a side is replaced, and what is so of each side with a number is so still
-set-keeps : (P : PlainSide → Type 0) (xs : List PlainSide) (j i : ℕ) (x : PlainSide) →
-    (i ≡ j → P (slice_index_or xs j no_side) → P x) → P (slice_index_or xs i no_side) → P (slice_index_or (slice_set xs j x) i no_side)
-set-keeps P [] j i x h p = p
-set-keeps P (y ∷ ys) zero zero x h p = h refl p
-set-keeps P (y ∷ ys) zero (suc i) x h p = p
-set-keeps P (y ∷ ys) (suc j) zero x h p = p
-set-keeps P (y ∷ ys) (suc j) (suc i) x h p = set-keeps P ys j i x (λ e. h (ap suc e)) p
+-- one of a list is replaced, and what is so of each with a number is so still
+set-keeps : {A : Type 0} (P : A → Type 0) (usual : A) (xs : List A) (j i : ℕ) (x : A) →
+    (i ≡ j → P (slice_index_or xs j usual) → P x) → P (slice_index_or xs i usual) → P (slice_index_or (slice_set xs j x) i usual)
+set-keeps P usual [] j i x h p = p
+set-keeps P usual (y ∷ ys) zero zero x h p = h refl p
+set-keeps P usual (y ∷ ys) zero (suc i) x h p = p
+set-keeps P usual (y ∷ ys) (suc j) zero x h p = p
+set-keeps P usual (y ∷ ys) (suc j) (suc i) x h p = set-keeps P usual ys j i x (λ e. h (ap suc e)) p
 
 -- sides of different links have different numbers
 pub numbers-differ : (e z : SideId) → z.link ≢ e.link → number z ≢ number e
@@ -138,7 +138,7 @@ module _ (w : RestingValue) (time : ℕ) (k : Links) (h : IsWatching w time k) w
       watching-at w j (wakes-none w) opened (λ z under out m p.
       let P : PlainSide → Type 0 = λ u. IsResting m time u (links.gauge_at k z) in
       let moved : P (links.side_at j z) = subst (λ xs. P (slice_index_or xs (number z) no_side)) (sym sides)
-      (set-keeps P k.sides (number e) (number z) y
+      (set-keeps P no_side k.sides (number e) (number z) y
       (λ same q. resting-alike m time (links.side_at k e) y (links.gauge_at k z) like q) p) in
       subst (λ xs. IsResting m time (links.side_at j z) (slice_index_or xs (number z) no_gauge))
       (sym gauges) moved)
@@ -164,35 +164,41 @@ module _ (w : RestingValue) (time : ℕ) (k : Links) (h : IsWatching w time k) w
       ∙ get_or-set_other k.gauges (number e) (number z) g no_gauge differ in
       resting-parts m time (sym side) (sym gauge) p)
 
-  -- Bytes were moved at a side, whose link is watched if the side has a limit.
+  -- Bytes were moved at a side, whose link is watched if the side is live and has a limit.
   pub watching-spent : (v : RestingValue) (j : Links) (e : SideId) (d : Dir) (n : ℕ) (limited : Bool) →
       Wakes w v → (limited ≡ true → v.watched.has e.link ≡ true) →
-      limited ≡ is_some (links.allowance_at time k e d) →
+      limited ≡ ((links.side_at k e).live && is_some (links.allowance_at time k e d)) →
       j ≡ links.bucket_spent time e d n k → IsWatching v time j
   watching-spent v j e d n limited more there told is =
       watching-at v j more (ap (λ (z : Links). z.opened) is) (λ z under out m p.
-      let gauges : j.gauges ≡ slice_set k.gauges (number e) (gauge_after (links.side_at k e).limit time d n (links.gauge_at k e)) =
-      ap (λ (l : Links). l.gauges) is in
+      let after = gauge_after (links.side_at k e).limit time d n (links.gauge_at k e) in
+      let gauges : j.gauges ≡ slice_set k.gauges (number e) after = ap (λ (l : Links). l.gauges) is in
       let side : links.side_at j z ≡ links.side_at k z = ap (λ (l : Links). slice_index_or l.sides (number z) no_side) is in
-      elim (eqb_tells z.link e.link) [
-        | inl here ↦
-            let free : is_some (links.allowance_at time k e d) ≡ false = sym told
-            ∙ not_limited limited there (ap v.watched.has (sym here.1) ∙ out) in
-            let same : gauge_after (links.side_at k e).limit time d n (links.gauge_at k e) ≡ links.gauge_at k e =
-            unlimited (links.side_at k e).limit (links.gauge_at k e) d n free in
-            let gauge : links.gauge_at j z ≡ links.gauge_at k z = ap (λ xs. slice_index_or xs (number z) no_gauge)
-            (gauges ∙ ap (slice_set k.gauges (number e)) same ∙ set-get_or k.gauges (number e) no_gauge) in
-            resting-parts m time (sym side) (sym gauge) p
-        | inr other ↦
-            let gauge : links.gauge_at j z ≡ links.gauge_at k z = ap (λ xs. slice_index_or xs (number z) no_gauge) gauges
-            ∙ get_or-set_other k.gauges (number e) (number z) _ no_gauge (numbers-differ e z other.1) in
-            resting-parts m time (sym side) (sym gauge) p
-      ])
+      resting-parts m time (sym side) (ap (λ xs. slice_index_or xs (number z) no_gauge) (sym gauges))
+      (set-keeps (IsResting m time (links.side_at k z)) no_gauge k.gauges (number e) (number z) after
+      (λ same q.
+      let own : links.side_at k z ≡ links.side_at k e = ap (λ i. slice_index_or k.sides i no_side) same in
+      let here : z.link ≡ e.link = omega (arith, same, half-below e.side, half-below z.side) in
+      let free = sym told ∙ not_limited limited there (ap v.watched.has (sym here) ∙ out) in
+      resting-parts m time (sym own) refl
+      (resting-spent m (links.side_at k e) (links.gauge_at k e) d n free (resting-parts m time own refl q))) p))
     where
-      unlimited : (l : Option Standing) (x : Gauge) (d : Dir) (n : ℕ) → is_some (left_by l x d time) ≡ false →
-          gauge_after l time d n x ≡ x
-      unlimited None x d n none = refl
-      unlimited (Some y) x d n none = absurd (let wrong : true ≡ false = none in cc)
+      -- a dead side gains nothing, and one without a limit spends nothing
+      gains-spent : (live : Bool) (l : Option Standing) (g : Gauge) (d : Dir) (n : ℕ) → (live && is_some (left_by l g d time)) ≡ false →
+          (if live then limit_gains time g l else []) ≡ (if live then limit_gains time (gauge_after l time d n g) l else [])
+      gains-spent false l g d n none = refl
+      gains-spent true None g d n none = refl
+      gains-spent true (Some y) g d n none = absurd (let wrong : true ≡ false = none in cc)
+
+      resting-spent : (m : Option ℕ) (x : PlainSide) (g : Gauge) (d : Dir) (n : ℕ) →
+          (x.live && is_some (left_by x.limit g d time)) ≡ false →
+          IsResting m time x g → IsResting m time x (gauge_after x.limit time d n g)
+      resting-spent m x g d n free p = record {
+        reads = p.reads;
+        writes = p.writes;
+        unexpired = p.unexpired;
+        gains = p.gains ∙ gains-spent x.live x.limit g d n free;
+      }
 
       not_limited : (b : Bool) → (b ≡ true → v.watched.has e.link ≡ true) → v.watched.has e.link ≡ false → b ≡ false
       not_limited false there out = refl
@@ -225,9 +231,9 @@ module _ (w : RestingValue) (time : ℕ) (k : Links) (h : IsWatching w time k) w
           let P : PlainSide → Type 0 = λ y. IsResting m time y g in
           let bad = λ (y : PlainSide) (b : Option ℕ) (p : P y). resting-alike m time y (with_bad b y) g
           (record { live = refl; timeouts = refl; expired = refl; limit = refl }) p in
-          let one = set-keeps P k.sides (number e) (number z) (with_bad q.from_bad (links.side_at k e))
+          let one = set-keeps P no_side k.sides (number e) (number z) (with_bad q.from_bad (links.side_at k e))
           (λ same p. bad (links.side_at k e) q.from_bad p) p in
-          let two = set-keeps P mid.sides (number (peer e)) (number z) (with_bad q.to_bad (links.side_at mid (peer e)))
+          let two = set-keeps P no_side mid.sides (number (peer e)) (number z) (with_bad q.to_bad (links.side_at mid (peer e)))
           (λ same p. bad (links.side_at mid (peer e)) q.to_bad p) one in
           resting-parts m time (ap (λ xs. slice_index_or xs (number z) no_side) (sym sides))
           (ap (λ xs. slice_index_or xs (number z) no_gauge) (sym gauges)) two)
@@ -444,7 +450,7 @@ side_sound time u x y a h = (
   λ e. let p = h.2 e in (a.alike.timeouts ∙ p.0, a.alike.expired ∙ p.1, a.alike.limit ∙ p.2),
 )
 
-pub changed_sound : (r : Inside) (s : SidesValue) (e : SideId) (f : PlainSide → PlainSide) → IsSound r →
+pub changed_sound : (r : Inside) (s : PoolValue) (e : SideId) (f : PlainSide → PlainSide) → IsSound r →
     s.links ≡ change_side e f r.sides.links → ((x : PlainSide) → IsMuchAlike x (f x)) → IsSound (record r { sides = s })
 changed_sound r s e f h is like = record {
   timed = still_sound r.settings r.time r.untimed r.sides.links s.links e f h.timed

@@ -16,7 +16,7 @@ use Rattle.ev_types.specs.declared.entry.Entry.TheVariants as entry
 use Rattle.relay_model.specs.Asks.{most_asks, refusal}
 use Rattle.relay_model.specs.Plans.{IsPlanned}
 use Rattle.relay_state.specs.Asking.{AsksOne, AsksAll, ask_events, stops}
-use Rattle.relay_core.specs.Named.{HasRoomForReference, NamesLinkBelow}
+use Rattle.relay_core.specs.Named.{HasRoomForReference, NamesLinkBelow, NamesLive}
 use Rattle.relay_core.specs.RelayValue.{RelayValue}
 use Rattle.relay_core.specs.declared.fault.AskFault.{AskFault}
 use Rattle.relay_core.specs.declared.fault.AskFault.TheVariants as fault
@@ -69,12 +69,13 @@ pub record FreeRecorded (e : SideId) (moved given : ℕ) (old new : RelayValue) 
   pub me : new.me ≡ old.me
   pub stopped : new.stopped ≡ old.stopped
 
--- an ask may be done: it is not one too many, nothing refuses it, and the side that it names was opened
+-- an ask may be done: it is not one too many, nothing refuses it, and the side that it names was opened, and is live where it has to be
 pub record MayAsk (a : Act) (old new : RelayValue) : Type 0 where
   pub same : new ≡ old
   pub few : old.asks < most_asks
   pub free : refusal old.state.settings old.state.plain a ≡ None
   pub named : NamesLinkBelow old.state.plain.opened a
+  pub live : NamesLive old.state.plain a
   pub room : HasRoomForReference old.state.plain a
 
 -- the hook that runs made this ask, which was answered so and recorded

@@ -3,7 +3,7 @@ ghost use Rattle.std.specs.Prelude.{◌≡◌, ◌<◌, false, Err, None, OnOk, 
 ghost use Rattle.ev_types.specs.AskNumbers.{IsAct};
 ghost use Rattle.relay_model.specs.Asks.{refusal, names_no_live, has_bad_value, names_no_group, has_too_many, most_asks};
 ghost use Rattle.relay_model.specs.Plain.{side_at};
-ghost use Rattle.relay_core.specs.Named.{HasRoomForReference, NamesLinkBelow};
+ghost use Rattle.relay_core.specs.Named.{HasRoomForReference, NamesLinkBelow, NamesLive};
 ghost use Rattle.relay_core.specs.Fires.{AsksOnce, IsRecorded, MayAsk, answer_of, fault_of};
 
 use crate::ctl::Ctl;
@@ -49,6 +49,7 @@ impl Ctl {
     fn names_no_live(&self, act: &Act) -> bool
         ensures live { result ≡ names_no_live self.now.state.plain act.now }
         ensures opened { result ≡ false → NamesLinkBelow self.now.state.plain.opened act.now }
+        ensures side { result ≡ false → NamesLive self.now.state.plain act.now }
     {
         match *act {
             Act::Free(side)
@@ -118,6 +119,7 @@ impl Ctl {
     fn refusal(&self, act: &Act) -> Option<AskAnswer>
         ensures refusal { result ≡ refusal self.now.state.settings self.now.state.plain act.now }
         ensures opened { result ≡ None → NamesLinkBelow self.now.state.plain.opened act.now }
+        ensures live { result ≡ None → NamesLive self.now.state.plain act.now }
         ensures room { result ≡ None → HasRoomForReference self.now.state.plain act.now }
     {
         if self.names_no_live(act) {

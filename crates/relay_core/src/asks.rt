@@ -258,6 +258,7 @@ impl Ctl {
     {
         self.may_ask(Act::Decref(side))?;
         self.sides.decref(side);
+        self.sides.leave(side.link);
         self.record(Act::Decref(side), AskAnswer::Ok);
         Ok(())
     }

@@ -136,7 +136,10 @@ impl Relay {
                 self.ctl.free_side(near);
                 self.ctl.free_side(near.peer());
             }
-            Closing::Shut(side) => self.ctl.sides.shut(side),
+            Closing::Shut(side) => {
+                self.ctl.sides.shut(side);
+                self.ctl.sides.leave(side.link);
+            }
         }
     }
 }

@@ -12,7 +12,8 @@ use crate::rates::leave;
 use ev_types::{Entry, Settings, SideId, Why};
 use number_set::NumberSet;
 use rate_group::Groups;
-use relay_sides::{Dir, Sides, SpareLimits};
+use relay_pool::LinkPool;
+use relay_sides::{Dir, SpareLimits};
 use relay_waits::Waits;
 use resting_links::RestingLinks;
 use std::marker::Model;
@@ -35,7 +36,7 @@ pub struct Ctl {
     pub(crate) grouped: NumberSet,
     pub(crate) time: u64,
     pub(crate) turns: u64,
-    pub(crate) sides: Sides,
+    pub(crate) sides: LinkPool,
     /// The groups, of which sides are members by their numbers.
     pub(crate) groups: Groups,
     pub(crate) spare_limits: SpareLimits,

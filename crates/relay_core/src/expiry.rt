@@ -56,7 +56,8 @@ impl Relay {
 
     /// Whether the direction was idle for as long as its timeout.
     fn has_run_out(&self, side: SideId, dir: Dir) -> bool
-        requires { side.link < self.now.state.plain.opened }
+        requires opened { side.link < self.now.state.plain.opened }
+        requires live { (side_at self.now.state.plain side).live ≡ true }
         ensures { result ≡ has_run_out (side_at self.now.state.plain side) dir self.now.state.plain.time }
     {
         self.ctl.sides.idle_time(side, dir, self.ctl.time) >= self.ctl.sides.timeout(side, dir)

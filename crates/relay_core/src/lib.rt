@@ -35,4 +35,5 @@ pub use hook::Hook;
 pub use rate_group::GroupSet;
 pub use rate_groups::RateGroups;
 pub use relay::Relay;
-pub use relay_sides::{Counts, Lengths, SideFlags, Sides};
+pub use relay_pool::LinkPool;
+pub use relay_sides::{Counts, Lengths, SideFlags};

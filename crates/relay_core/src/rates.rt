@@ -2,6 +2,7 @@
 ghost use Rattle.std.specs.Prelude.{◌≡◌, ◌<◌, ◌≤◌, ◌+◌, true, length, IfSome};
 ghost use Rattle.ev_types.specs.Sides.{number};
 ghost use Rattle.rate_group.specs.Steps.{share_in, spent, left};
+ghost use Rattle.relay_model.specs.Plain.{side_at};
 ghost use Rattle.relay_model.specs.Rooms.{at_most};
 ghost use Rattle.relay_state.specs.Opening.{joined_where};
 ghost use Rattle.relay_state.specs.Rooms.{allowance, share, within_rates};
@@ -67,9 +68,10 @@ pub(crate) fn leave(groups: &mut Groups, side: SideId)
 }
 
 impl Ctl {
-    /// What limit and group leave of a number of bytes to move at a side.
+    /// What limit and group leave of a number of bytes to move at a live side.
     pub(crate) fn within_rates(&self, side: SideId, dir: Dir, count: usize) -> usize
-        requires { side.link < self.now.state.plain.opened }
+        requires opened { side.link < self.now.state.plain.opened }
+        requires live { (side_at self.now.state.plain side).live ≡ true }
         ensures { result ≡ within_rates self.now.state side dir count }
     {
         if count == 0 {
@@ -90,7 +92,8 @@ impl Ctl {
         ensures fire { SameFire self.old self.new }
         ensures reads { self.new.spare_reads ≡ self.old.spare_reads }
     {
-        let limited = self.sides.allowance(side, dir, self.time).is_some();
+        let limited = self.sides.is_live(side)
+            && self.sides.allowance(side, dir, self.time).is_some();
         watch_where(&mut self.resting, side.link, limited);
         self.sides.spend(side, dir, count as u64, self.time);
         spend_share(&mut self.groups, side.number() as u64, dir, count as u64);

@@ -12,7 +12,8 @@ use crate::rate_groups::RateGroups;
 use ev_types::{NoMemory, Settings, Side, SideId, Timeouts};
 use number_set::NumberSet;
 use rate_group::Groups;
-use relay_sides::{Sides, SpareLimits};
+use relay_pool::LinkPool;
+use relay_sides::SpareLimits;
 use relay_waits::Waits;
 use resting_links::RestingLinks;
 use std::alloc::Global;
@@ -85,7 +86,7 @@ impl Relay {
             untimed,
             time: 0,
             turns: 0,
-            sides: Sides::new(alloc),
+            sides: LinkPool::new(alloc),
             groups,
             spare_limits: SpareLimits::new(alloc),
             waits: Waits::new(alloc, hooked)?,
@@ -103,10 +104,10 @@ impl Relay {
     }
 
     /// The sides of all links that were opened, and the directions between them, as the state has them: what is so of a side, why it is
-    /// faulty, and what was counted of it. Constant; takes no memory.
+    /// faulty, and what was counted of it. Some of it may be asked only while a side of the link is live. Constant; takes no memory.
     ///
     /// Own.
-    pub fn sides(&self) -> &Sides
+    pub fn sides(&self) -> &LinkPool
         ensures opened { result.now.links.opened ≡ self.now.state.plain.opened }
         ensures sides { result.now.links.sides ≡ self.now.state.plain.sides }
         ensures flows { result.now.links.flows ≡ self.now.state.plain.flows }

@@ -60,6 +60,9 @@ impl Relay {
         requires { side.link < self.now.state.plain.opened }
         ensures { result.now ≡ offer_of self.now.state side }
     {
+        if !self.ctl.sides.is_live(side) {
+            return &[];
+        }
         let room = self.write_room(side);
         let (offer, _) = self.ctl.sides.waiting_for(side).split_at(room);
         offer

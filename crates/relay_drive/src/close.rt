@@ -1,5 +1,5 @@
 // Closing what is to be closed of each link.
-ghost use Rattle.std.specs.Prelude.{◌≡◌, ◌+◌, ◌<◌, ◌≤◌, false, [], ◌∷◌, length, Ok, OnOk};
+ghost use Rattle.std.specs.Prelude.{◌≡◌, ◌+◌, ◌<◌, ◌≤◌, true, false, [], ◌∷◌, length, is_some, Ok, OnOk};
 ghost use Rattle.ev_types.specs.Growth.{Grew};
 ghost use Rattle.ev_port.specs.Vouching.{LongerBy};
 ghost use Rattle.ev_types.specs.declared.entry.Entry.{Entry as EntryValue};
@@ -8,7 +8,8 @@ ghost use Rattle.ev_port.specs.Counting.{counted};
 ghost use Rattle.ev_port.specs.Faults.{FaultsStay};
 ghost use Rattle.ev_port.specs.EndSteps.{AllWent, PortStays};
 ghost use Rattle.relay_model.specs.Close.{freed_entry};
-ghost use Rattle.relay_core.specs.Steps.{link_of_step};
+ghost use Rattle.relay_state.specs.Closing.{closing_entry};
+ghost use Rattle.relay_core.specs.Steps.{link_of_step, close_step};
 ghost use Rattle.relay_drive.specs.Steps.{Nothing};
 ghost use Rattle.relay_drive.specs.Phases.{closing_events, told_events, told_step, Closes, LooksAt, ClosesLink, CutClosingLink};
 ghost use Rattle.relay_drive.specs.Phases.{ForAllLinks, CutForAllLinks};
@@ -60,9 +61,10 @@ fn tell<P: Port>(step: Closing, port: &mut P)
     }
 }
 
-/// Puts the entries of a step of closing, in room that was made before.
+/// Puts the entries of a step of closing that is called for, in room that was made before.
 fn put_closing<S: Scribe>(run: &mut Run, step: Closing, scribe: &mut S)
     requires opened { link_of_step step < run.old.relay.state.plain.opened }
+    requires due { is_some (closing_entry run.old.relay.state (close_step step)) ≡ true }
     requires room { 2 ≤ S.spare_entries scribe.old }
     ensures relay { run.new.relay ≡ run.old.relay }
     ensures counted { counted run.new.entries 0 ≡ counted run.old.entries (length (closing_events run.old.relay.state step)) }

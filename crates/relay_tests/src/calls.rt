@@ -87,10 +87,11 @@ pub(crate) fn rooms(relay: &Relay, side: SideId) -> (usize, usize) {
     (relay.read_room(side), relay.write_room(side))
 }
 
-/// Why a side is to be freed.
+/// Why a live side is to be freed.
 pub(crate) fn fault(relay: &Relay, side: SideId) -> Option<Cause> {
-    if side.link >= relay.opened() {
+    let sides = relay.sides();
+    if side.link >= sides.opened() || !sides.is_live(side) {
         return None;
     }
-    relay.sides().fault(side)
+    sides.fault(side)
 }

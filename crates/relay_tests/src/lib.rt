@@ -9,6 +9,8 @@ mod fires;
 #[cfg(test)]
 mod links;
 #[cfg(test)]
+mod pool;
+#[cfg(test)]
 mod rates;
 #[cfg(test)]
 mod runs;

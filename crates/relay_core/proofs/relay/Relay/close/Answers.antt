@@ -1,4 +1,4 @@
-use Rattle.std.proofs.Common.{true, refl}
+use Rattle.std.proofs.Common.{◌∙◌, true, refl}
 use Rattle.relay_model.specs.Plain.{PlainSide}
 use Rattle.relay_core.proofs.WatchLemmas.{changed_sound}
 use Rattle.relay_core.proofs.relay.Relay.close.Goals as goal
@@ -11,6 +11,6 @@ invariant_of-self-inside c =
 
 pub invariant_of-self-inside-in-Shut-1 : goal.invariant_of-self-inside-in-Shut-1
 invariant_of-self-inside-in-Shut-1 c =
-    changed_sound c.self-inside-in-Shut.inside.0.0 c.shut.new.self c.in-Shut.side (λ (x : PlainSide). record x { closed = true })
-    c.self-inside-in-Shut.invariant c.shut.ensures
+    changed_sound c.self-inside-in-Shut.inside.0.0 c.leave.new.self c.in-Shut.side (λ (x : PlainSide). record x { closed = true })
+    c.self-inside-in-Shut.invariant (c.leave.ensures ∙ c.shut.ensures)
     (λ x. record { alike = record { live = refl; timeouts = refl; expired = refl; limit = refl }; read = refl; write = refl })
