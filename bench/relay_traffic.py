@@ -9,7 +9,7 @@ Stages, each over a relay of its own:
   refused   a target that refuses: the client is closed, and the relay goes on
   full      once all its links are opened it listens no more: the next client is refused at once, and the last link goes on
   address   it listens at the address that it was given and at no other, connects to that of the target, and waits without the processor
-  many      1,100 links, one after the other, each to the target, with bytes of its own both ways
+  many      1,100 links, one after the other, each to the target, with bytes of its own both ways; one that is over holds at most 1,000 bytes
   halves    1 MiB each way, the second one sent only once the first one and its end came, in both orders
   starved   with few descriptors it ends at once and says so, or it serves
   idle      links that moved 64 KiB each way and are idle hold at most 2,400 bytes each, and cost no processor
@@ -307,13 +307,17 @@ async def many(program, rng, links):
     target = Target()
     await target.start()
     relay = Relay(program, target.port, links)
-    sums = []
+    sums, resident, first = [], {}, links // 11
     for _ in range(links):
+        resident[len(sums)] = relay.resident()  # (the relay ends with its last link)
         sums.append(await client(relay, *plan(target, rng, 2000), random.Random(rng.random())))
+    held = (resident[links - 1] - resident[first]) // (links - 1 - first)
+    if held > 1000:
+        fail(f'a link that is over holds {held} bytes')
     lines = told(await asyncio.to_thread(relay.report))
     if lines != {'done': sorted((up, down, down, up) for up, down in sums)}:
         fail('the report of many links tells other numbers')
-    return f'{links} links'
+    return f'{links} links, {held} bytes each once it is over'
 
 
 async def halves(program, rng, size):
