@@ -3,6 +3,7 @@ pub mod TouchLemmas
 pub mod LeftLemmas
 pub mod LiftLemmas
 pub mod BayLemmas
+pub mod ReadLemmas
 pub mod CallLemmas
 pub mod OpeningLemmas
 pub mod PassLemmas

@@ -1,7 +1,8 @@
 use Rattle.std.proofs.Common.{◌≤◌, subst, take}
 use Rattle.relay_sides.specs.Links.{after_got}
 use Rattle.relay_pool.proofs.CallLemmas.{lifts_got}
-use Rattle.relay_pool.proofs.BayLemmas.{bay_ready, below_met, links_bay, room_met}
+use Rattle.relay_pool.proofs.BayLemmas.{below_met, links_bay}
+use Rattle.relay_pool.proofs.ReadLemmas.{bay_ready, room_met}
 use Rattle.relay_pool.proofs.pool.LinkPool.got.Goals as goal
 
 pub at-requires-clause-there : goal.at-requires-clause-there

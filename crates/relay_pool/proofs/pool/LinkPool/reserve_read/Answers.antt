@@ -2,7 +2,8 @@ use Rattle.std.proofs.Common.{◌≤◌, refl, sym, subst, arith}
 use Rattle.std.specs.Result.{OnOk}
 use Rattle.relay_pool.specs.PoolView.{pool_of}
 use Rattle.relay_pool.specs.declared.pool.LinkPool.TheInside.{Inside}
-use Rattle.relay_pool.proofs.BayLemmas.{below_pool, pooled_same, room_met, room_over}
+use Rattle.relay_pool.proofs.BayLemmas.{below_pool}
+use Rattle.relay_pool.proofs.ReadLemmas.{pooled_same, room_met, room_over}
 use Rattle.relay_pool.proofs.pool.LinkPool.reserve_read.Goals as goal
 
 pub returns-in-Some-clause-room : goal.returns-in-Some-clause-room

@@ -8,7 +8,8 @@ use Rattle.relay_sides.specs.Links.{bucket_spent}
 use Rattle.relay_pool.proofs.CallLemmas.{lifts_spent, lifts_changed}
 use Rattle.relay_pool.specs.Over.{with_change, one_side}
 use Rattle.relay_pool.specs.declared.change.Change.TheVariants as change
-use Rattle.relay_pool.proofs.BayLemmas.{gauge_met, links_bay, links_left, pooled_over, reads_left, side_met}
+use Rattle.relay_pool.proofs.BayLemmas.{gauge_met, links_bay, links_left, pooled_over, side_met}
+use Rattle.relay_pool.proofs.ReadLemmas.{reads_left}
 use Rattle.relay_pool.proofs.pool.LinkPool.spend.Goals as goal
 
 pub invariant_of-self-in-None : goal.invariant_of-self-in-None
