@@ -11,3 +11,5 @@ pub mod StreamShift
 pub mod PairLemmas
 pub mod BlockLemmas
 pub mod BytewiseLemmas
+pub mod HexLaneLemmas
+pub mod HexBlockLemmas

@@ -8,6 +8,7 @@ ghost use Rattle.stream_filters.specs.Knowledge.{IsDigitLast};
 ghost use Rattle.stream_filters.specs.Parts.{AppendsPart, HasRoom, ReadsPairs, PairsStop, BlocksStop, value_of_pair};
 
 use crate::digits::{digit_value, hex_digit, value_or_none};
+use crate::hex_lanes::{read_by_lanes, write_by_lanes};
 use crate::knowledge::Knowledge;
 use crate::put::{put, put_byte};
 
@@ -19,7 +20,8 @@ fn write_digits(bytes: &[u8], block: &mut [u8])
     requires { length block.old ≡ 2 * length bytes.now }
     ensures { block.new ≡ hex_out bytes.now }
 {
-    for at in 0..bytes.len() {
+    let start = write_by_lanes(bytes, block);
+    for at in start..bytes.len() {
         let byte = bytes[at];
         block[2 * at] = hex_digit(byte / 16);
         block[2 * at + 1] = hex_digit(byte % 16);
@@ -75,8 +77,9 @@ fn read_digits(digits: &[u8], block: &mut [u8]) -> bool
     ensures digits { result ≡ list_all is_hex digits.now }
     ensures spelled { result ≡ true → block.new ≡ hex_in digits.now }
 {
-    let mut worst = 0u8;
-    for at in 0..block.len() {
+    let (start, all) = read_by_lanes(digits, block);
+    let mut worst = if all { 0u8 } else { 255 };
+    for at in start..block.len() {
         let (first, second) = (digits[2 * at], digits[2 * at + 1]);
         let (high, low) = (value_or_none(first), value_or_none(second));
         worst = worst.max(high).max(low);

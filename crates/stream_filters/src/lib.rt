@@ -7,6 +7,7 @@ mod any;
 mod digits;
 mod fault;
 mod filters;
+mod hex_lanes;
 mod hex_parts;
 mod knowledge;
 mod parts;
