@@ -1,5 +1,5 @@
 -- Blocks of which the next vector was written.
-use Rattle.std.proofs.Common.{◌≡◌, ℕ, zero, suc, ◌+◌, ◌*◌, ◌%◌, ◌^◌, ◌-◌, ◌<◌, ◌≤◌, Bool, true, false, not, cond, ltb, leb, ◌&&◌, List, []}
+use Rattle.std.proofs.Common.{◌≡◌, ℕ, zero, suc, ◌+◌, ◌*◌, ◌%◌, ◌^◌, ◌-◌, ◌≤◌, Bool, true, false, not, cond, ltb, leb, ◌&&◌, List, []}
 use Rattle.std.proofs.Common.{◌∷◌, ◌++◌, length, take, map, replicate, refl, sym, ap, ◌∙◌, arith, w8}
 use Rattle.std.specs.Prelude.{nat_lt, nat_eq}
 use Rattle.std.specs.List.{list_all}
@@ -10,7 +10,7 @@ use Rattle.std.proofs.lemmas.List.{length-map, length-take-le}
 use Rattle.std.proofs.lemmas.List.Folds.{list_all-append}
 use Rattle.std.proofs.lemmas.Simd.{length-chunk, take_more_put_chunk, tops_compared, mask_l-mod, zip2_splat_left}
 use Rattle.std.proofs.Math.Seq.{take-add}
-use Rattle.filter_model.specs.Filter.{hex_out, hex_in, hex_digit, is_hex, hex_value}
+use Rattle.filter_model.specs.Filter.{hex_out, hex_in, is_hex, hex_value}
 use Rattle.filter_model.proofs.FilterLemmas.{hex_out-append}
 use Rattle.stream_filters.proofs.PartLemmas.{length-hex_out}
 use Rattle.stream_filters.proofs.HexLaneLemmas.{pair_values, pair_values-digits, sel_lt}
@@ -47,7 +47,8 @@ pair_values-append (suc n) (x ∷ y ∷ xs) ys many =
     ap (λ z. (hex_value x * 16 % 256 + hex_value y) % 256 ∷ z) (pair_values-append n xs ys (omega (arith, many)))
 
 -- what thirty-two digits more spell
-pub spelled-vector : (digits block bytes : List ℕ) (at : ℕ) → 2 * at + 32 ≤ length digits → length digits ≡ 2 * length block → length bytes ≡ 16 →
+pub spelled-vector : (digits block bytes : List ℕ) (at : ℕ) → 2 * at + 32 ≤ length digits → length digits ≡ 2 * length block →
+    length bytes ≡ 16 →
     (list_all is_hex (take (2 * at) digits) ≡ true → take at block ≡ hex_in (take (2 * at) digits)) →
     (list_all is_hex (chunk (2 * at) 32 digits) ≡ true → bytes ≡ hex_in (chunk (2 * at) 32 digits)) →
     list_all is_hex (take (2 * (at + 16)) digits) ≡ true →
@@ -110,7 +111,8 @@ not_16 (x ∷ xs) = λ i. (let e : not (leb 16 x) ≡ nat_lt x 16 = grind (arith
 
 -- no bit of the mask of the numbers from 16 on
 pub mask_small : (v : List ℕ) → length v ≡ 32 →
-    nat_eq (mask_l (map (top 7) (zip2 (λ a b. cond (leb a b) (2 ^ 8 - 1) 0) (replicate 32 16) v)) % 2 ^ 64) 0 ≡ list_all (λ x. nat_lt x 16) v
+    nat_eq (mask_l (map (top 7) (zip2 (λ a b. cond (leb a b) (2 ^ 8 - 1) 0) (replicate 32 16) v)) % 2 ^ 64) 0
+    ≡ list_all (λ x. nat_lt x 16) v
 mask_small v long =
     let lanes = tops_compared w8 leb (replicate 32 16) v ∙ zip2_splat_left leb 16 32 v long in
     ap (λ ms. nat_eq (mask_l ms % 2 ^ 64) 0) lanes

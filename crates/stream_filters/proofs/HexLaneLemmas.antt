@@ -1,16 +1,16 @@
 -- What vectors hold when bytes go to hex digits and back.
-use Rattle.std.proofs.Common.{◌≡◌, ℕ, zero, suc, ◌+◌, ◌-◌, ◌*◌, ◌/◌, ◌%◌, ◌^◌, ◌<◌, ◌≤◌, Bool, true, false, not, cond, ltb, leb, eqb, ◌&&◌, ◌||◌}
-use Rattle.std.proofs.Common.{if◌then◌else◌, List, [], ◌∷◌, ◌++◌, length, get_or, map, replicate, refl, sym, ap, subst, ◌∙◌, arith, w8, bit_and}
-use Rattle.std.proofs.Common.{bit_or, Fits}
-use Rattle.std.specs.Prelude.{nat_lt, nat_eq}
+use Rattle.std.proofs.Common.{◌≡◌, ℕ, zero, suc, ◌+◌, ◌-◌, ◌*◌, ◌/◌, ◌%◌, ◌^◌, ◌<◌, ◌≤◌, Bool, true, false, not, cond, ltb, leb, eqb, ◌&&◌}
+use Rattle.std.proofs.Common.{if◌then◌else◌, List, [], ◌∷◌, ◌++◌, length, get_or, map, replicate, refl, sym, ap, subst, ◌∙◌, arith}
+use Rattle.std.proofs.Common.{w8, bit_and, bit_or, Fits}
+use Rattle.std.specs.Prelude.{nat_lt}
 use Rattle.std.specs.List.{list_all}
-use Rattle.std.specs.Simd.Lanes.{Each1, zip2, sel_l, mask_l, top, pick_l}
+use Rattle.std.specs.Simd.Lanes.{Each1, zip2, sel_l, top, pick_l}
 use Rattle.std.proofs.lemmas.Bool.{and_parts}
 use Rattle.std.proofs.lemmas.Bool.Decides.{nat_tests}
 use Rattle.std.proofs.lemmas.List.{length-map}
 use Rattle.std.proofs.lemmas.Nat.{and_mask}
-use Rattle.std.proofs.lemmas.Simd.{swz_l, SwzOk, SwzOk-from_below, get_or-swz_l_below, zip2_splat, zip2_splat_left, pick_l_whole, Each1-zip2}
-use Rattle.std.proofs.lemmas.Simd.{Each2-splat, Each1-weaker, tops_compared, mask_l-mod}
+use Rattle.std.proofs.lemmas.Simd.{swz_l, get_or-swz_l_below, zip2_splat, pick_l_whole, Each1-zip2}
+use Rattle.std.proofs.lemmas.Simd.{Each2-splat, Each1-all, Each1-weaker}
 use Rattle.filter_model.specs.Filter.{hex_out, hex_in, hex_digit, is_hex, hex_value}
 
 -- ---- a test that holds at each number below another
@@ -53,10 +53,10 @@ high_small v fits =
     Each1-zip2 (λ a b. a / 2 ^ b) (λ x. x < 16) v (replicate 16 4)
     (Each2-splat (λ a b. a / 2 ^ b < 16) v 16 4 (Each1-weaker (Fits w8) (λ a. a / 2 ^ 4 < 16) (λ a h. omega (arith, h.fits)) v fits))
 
-pub low_small : (v : List ℕ) → Each1 (Fits w8) v → Each1 (λ x. x < 16) (zip2 bit_and v (replicate 16 15))
-low_small v fits =
+pub low_small : (v : List ℕ) → Each1 (λ x. x < 16) (zip2 bit_and v (replicate 16 15))
+low_small v =
     Each1-zip2 bit_and (λ x. x < 16) v (replicate 16 15)
-    (Each2-splat (λ a b. bit_and a b < 16) v 16 15 (Each1-weaker (Fits w8) (λ a. bit_and a 15 < 16) (λ a h. omega (arith, and_mask a 4)) v fits))
+    (Each2-splat (λ a b. bit_and a b < 16) v 16 15 (Each1-all (λ a. bit_and a 15 < 16) (λ a. omega (arith, and_mask a 4)) v))
 
 abbrev weave : List ℕ
 weave = 0 ∷ 16 ∷ 1 ∷ 17 ∷ 2 ∷ 18 ∷ 3 ∷ 19 ∷ 4 ∷ 20 ∷ 5 ∷ 21 ∷ 6 ∷ 22 ∷ 7 ∷ 23 ∷ 8 ∷ 24 ∷ 9 ∷ 25 ∷ 10 ∷ 26 ∷ 11 ∷ 27 ∷ 12 ∷ 28 ∷ 13 ∷ 29
@@ -88,17 +88,19 @@ letter x = let s = (bit_or x 32 + 159) % 256 in (choice s 245 s 245 + 10) % 256
 abbrev pub lane_value : ℕ → ℕ
 lane_value x = choice (numeral x) (letter x) (numeral x) (letter x)
 
-abbrev tells : ℕ → Bool
-tells x = if is_hex x then eqb (lane_value x) (hex_value x) && ltb (lane_value x) 16 else not (ltb (lane_value x) 16)
+-- whether a number is what a lane should hold for a byte, where that is a digit and where it is none
+abbrev suits : Bool → ℕ → ℕ → Bool
+suits true value lane = eqb lane value && ltb lane 16
+suits false value lane = not (ltb lane 16)
 
 record Tells (x : ℕ) : Type 0 where
   small : nat_lt (lane_value x) 16 ≡ is_hex x
   value : is_hex x ≡ true → lane_value x ≡ hex_value x
 
 lane_tells : (x : ℕ) → Fits w8 x → Tells x
-lane_tells x fits = go (is_hex x) refl (test_below 256 tells refl x fits.fits)
+lane_tells x fits = go (is_hex x) refl (test_below 256 (λ x. suits (is_hex x) (hex_value x) (lane_value x)) refl x fits.fits)
   where
-    go : (b : Bool) → is_hex x ≡ b → (if b then eqb (lane_value x) (hex_value x) && ltb (lane_value x) 16 else not (ltb (lane_value x) 16)) ≡ true → Tells x
+    go : (b : Bool) → is_hex x ≡ b → suits b (hex_value x) (lane_value x) ≡ true → Tells x
     go true hex t =
         let parts = and_parts (eqb (lane_value x) (hex_value x)) (ltb (lane_value x) 16) t in
         record { small = parts.1 ∙ sym hex; value = λ h. grind (arith, nat_tests, parts.0) }
@@ -169,7 +171,7 @@ pair_values-digits (x ∷ y ∷ ys) all =
     let first = and_parts (is_hex x) (is_hex y && list_all is_hex ys) all in
     let second = and_parts (is_hex y) (list_all is_hex ys) first.1 in
     let value : (hex_value x * 16 % 256 + hex_value y) % 256 ≡ 16 * hex_value x + hex_value y =
-        (let a = digit_small x first.0 in let b = digit_small y second.0 in omega (arith, a, b)) in
+    (let a = digit_small x first.0 in let b = digit_small y second.0 in omega (arith, a, b)) in
     (λ i. value i ∷ pair_values-digits ys second.1 i)
     ∙ sym (λ i. if first.0 i && second.0 i then (16 * hex_value x + hex_value y) ∷ hex_in ys else [])
 
@@ -184,7 +186,8 @@ spelled v =
     let high = zip2 (λ a b. a * b % 256) (pick_l 0 (v ++ v) evens) (replicate 16 16) in
     zip2 (λ a b. (a + b) % 256) high (pick_l 0 (v ++ v) odds)
 
-pub spelled-digits : (v digits : List ℕ) → length v ≡ 32 → list_all is_hex digits ≡ true → v ≡ map hex_value digits → spelled v ≡ hex_in digits
+pub spelled-digits : (v digits : List ℕ) → length v ≡ 32 → list_all is_hex digits ≡ true → v ≡ map hex_value digits →
+    spelled v ≡ hex_in digits
 spelled-digits v digits long all told =
     let many : length digits ≡ 32 = sym (length-map digits hex_value) ∙ ap length (sym told) ∙ long in
     ap spelled told

@@ -1,4 +1,4 @@
-// Hex digits by arithmetic: no table, so that a loop over bytes takes many of them at once.
+// Hex digits one by one.
 ghost use Rattle.std.specs.Prelude.{◌≡◌, ◌<◌, Some, None, IfSome, if◌then◌else◌};
 ghost use Rattle.filter_model.specs.Filter.{hex_digit as digit_of, is_hex, hex_value};
 ghost use Rattle.stream_filters.specs.Parts.{value_or_none};

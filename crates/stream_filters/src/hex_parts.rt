@@ -1,4 +1,5 @@
-// The parts of runs of hex filters. Digits are written and read block by block, in loops without a branch, and one by one at a bad byte.
+// The parts of runs of hex filters. Digits are written and read block by block, by vectors as far as those go, and one by one at a
+// bad byte.
 ghost use Rattle.std.specs.Prelude.{◌≡◌, ◌≤◌, ◌<◌, ◌+◌, ◌-◌, ◌*◌, ◌/◌, ◌%◌, ◌++◌, true, length, take, drop, min, slice_index, unwrap_or};
 ghost use Rattle.std.specs.Prelude.{vec_len, vec_capacity};
 ghost use Rattle.std.specs.List.{last_or, list_all};

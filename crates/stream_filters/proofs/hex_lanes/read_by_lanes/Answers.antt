@@ -10,6 +10,7 @@ loop-block-preserved c =
     let block = c.loop-block.block in
     let at = c.loop-block.at in
     let was = c.loop-block.invariant in
+    let worst = c.loop-block.worst in
     let values = c.values_of-values.result in
     let bytes = c.spelled_by.result in
     let same : length (put_chunk at block bytes) ≡ length block = length-put_chunk at block bytes in
@@ -17,7 +18,7 @@ loop-block-preserved c =
     let inside : 2 * at + 32 ≤ length digits = (let p = was.places in omega (arith, within, p)) in
     record {
       within = omega (arith, within, same);
-      digits = worst-vector digits c.loop-block.worst values at c.loop-block.auto.worst.0 (omega arith) was.digits c.values_of-values.ensures.small;
+      digits = worst-vector digits worst values at c.loop-block.auto.worst.0 (omega arith) was.digits c.values_of-values.ensures.small;
       spelled =
           spelled-vector digits block bytes at inside was.places (omega arith) was.spelled
           (λ all. c.spelled_by.ensures (chunk (2 * at) 32 digits) all (c.values_of-values.ensures.values all));
