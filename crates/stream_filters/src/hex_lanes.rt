@@ -40,7 +40,7 @@ fn values_of(digits: u8x32) -> u8x32
     ensures small { list_all (λ x. nat_lt x 16) result ≡ list_all is_hex digits }
     ensures values { list_all is_hex digits ≡ true → result ≡ map hex_value digits }
 {
-    // The digits 0 to 9 come last of all here, so that no other byte is below 10 behind it.
+    // The numerals move to the end, 246 to 255: so saturating leaves all other bytes at 16 or more, as the least of 245 does below.
     let from_end = (digits + u8x32::splat(255 - b'9')).saturating_sub(u8x32::splat(6));
     let numerals = from_end - u8x32::splat(240);
     let from_a = (digits | u8x32::splat(0x20)) - u8x32::splat(b'a');
