@@ -2,7 +2,7 @@
 use Rattle.std.proofs.Common.{◌≡◌, ℕ, zero, suc, ◌+◌, ◌-◌, ◌*◌, ◌/◌, ◌%◌, ◌^◌, ◌<◌, ◌≤◌, Bool, true, false, not, ◌&&◌, ◌==◌, cond, if◌then◌else◌}
 use Rattle.std.proofs.Common.{List, [], ◌∷◌, ◌++◌, length, take, drop, get_or, map, Some, refl, sym, ◌∙◌, ap, subst, arith, eqb}
 use Rattle.std.proofs.Common.{append_assoc, length-append}
-use Rattle.std.specs.Prelude.{slice_index, bit_and, replicate}
+use Rattle.std.specs.Prelude.{min, slice_index, bit_and, replicate}
 use Rattle.std.specs.List.{last_or, range_with_len}
 use Rattle.std.specs.Simd.Lanes.{mask_l, zip2, top, chunk, pick_l}
 use Rattle.std.proofs.lemmas.Bool.{eqb-true}
@@ -23,7 +23,8 @@ flag false false = refl
 
 -- the mask of the lanes
 pub flags : (n : ℕ) (before bytes : List ℕ) → length before ≡ n → length bytes ≡ n →
-    map (top 7) (zip2 bit_and (zip2 (λ a b. cond (eqb a b) 255 0) bytes (replicate n LF)) (zip2 (λ a b. cond (not (eqb a b)) 255 0) before (replicate n CR)))
+    map (top 7) (zip2 bit_and (zip2 (λ a b. cond (eqb a b) 255 0) bytes (replicate n LF))
+    (zip2 (λ a b. cond (not (eqb a b)) 255 0) before (replicate n CR)))
     ≡ zip2 is_bare_end before bytes
 flags n [] [] e f = refl
 flags n [] (x ∷ bytes) e f = absurd (omega (arith, e, f))
@@ -66,7 +67,8 @@ spread-cut (suc n) (b ∷ bs) (x ∷ xs) e =
     ∙ ap (λ zs. (if b then CR ∷ x ∷ [] else x ∷ []) ++ zs) (spread-cut n bs xs (omega (arith, e)))
 
 -- with the flags of bare ends it is what to-crlf makes
-spread-ends : (n l : ℕ) (rest : List ℕ) → spread (zip2 is_bare_end (take n (l ∷ rest)) (take n rest)) (take n rest) ≡ crlf_after l (take n rest)
+spread-ends : (n l : ℕ) (rest : List ℕ) →
+    spread (zip2 is_bare_end (take n (l ∷ rest)) (take n rest)) (take n rest) ≡ crlf_after l (take n rest)
 spread-ends zero l rest = refl
 spread-ends (suc n) l [] = refl
 spread-ends (suc n) l (x ∷ rest) =
@@ -104,8 +106,10 @@ halves ms long =
 -- the halves of 16 bytes, each with CR behind it
 pub record Shuffled (xs : List ℕ) : Type 0 where
   pub cr : get_or (xs ++ replicate 16 CR) 16 0 ≡ CR
-  pub low : take 8 (pick_l 0 (xs ++ replicate 16 CR) (0 ∷ 1 ∷ 2 ∷ 3 ∷ 4 ∷ 5 ∷ 6 ∷ 7 ∷ 16 ∷ 16 ∷ 16 ∷ 16 ∷ 16 ∷ 16 ∷ 16 ∷ 16 ∷ [])) ≡ take 8 xs
-  pub high : take 8 (pick_l 0 (xs ++ replicate 16 CR) (8 ∷ 9 ∷ 10 ∷ 11 ∷ 12 ∷ 13 ∷ 14 ∷ 15 ∷ 16 ∷ 16 ∷ 16 ∷ 16 ∷ 16 ∷ 16 ∷ 16 ∷ 16 ∷ []))
+  pub low : take 8 (pick_l 0 (xs ++ replicate 16 CR)
+      (0 ∷ 1 ∷ 2 ∷ 3 ∷ 4 ∷ 5 ∷ 6 ∷ 7 ∷ 16 ∷ 16 ∷ 16 ∷ 16 ∷ 16 ∷ 16 ∷ 16 ∷ 16 ∷ [])) ≡ take 8 xs
+  pub high : take 8 (pick_l 0 (xs ++ replicate 16 CR)
+      (8 ∷ 9 ∷ 10 ∷ 11 ∷ 12 ∷ 13 ∷ 14 ∷ 15 ∷ 16 ∷ 16 ∷ 16 ∷ 16 ∷ 16 ∷ 16 ∷ 16 ∷ 16 ∷ []))
       ≡ drop 8 xs
 
 pub shuffled : (xs : List ℕ) → length xs ≡ 16 → Shuffled xs
@@ -130,7 +134,8 @@ module _ (src : List ℕ) (at : ℕ) (there : at + 17 ≤ length src) where
   pub high-small : mask_l ends / 256 < 256
   high-small = let below = subst (λ n. mask_l ends < 2 ^ n) ends-long (mask_l-lt ends) in omega (arith, below)
 
-  pub sixteen : with_crs (mask_l ends % 256) (take 8 bytes) ++ with_crs (mask_l ends / 256) (drop 8 bytes) ≡ crlf_after (slice_index src at) bytes
+  pub sixteen : with_crs (mask_l ends % 256) (take 8 bytes) ++ with_crs (mask_l ends / 256) (drop 8 bytes)
+      ≡ crlf_after (slice_index src at) bytes
   sixteen =
       let half = halves ends ends-long in
       let same : length ends ≡ length bytes = ends-long ∙ sym bytes-long in
@@ -171,13 +176,27 @@ crlf-some (suc n) l (x ∷ xs) =
     let ih = crlf-some n x xs in
     omega (arith, length-append one (crlf_after x (take n xs)), length-append one (crlf_after x xs), ih)
 
--- and from there a piece of n bytes, the first of which was used before
-pub crlf-piece : (src piece : List ℕ) (at n : ℕ) → at < length src → 0 < n → piece ≡ take n (drop at src) →
-    crlf_after (slice_index src 0) (take at (drop 1 src)) ++ crlf_after (slice_index piece 0) (drop 1 piece)
-    ≡ crlf_after (slice_index src 0) (take (at + (n - 1)) (drop 1 src))
-crlf-piece src piece at n within some is =
+-- a piece from there on, the first byte of which was used before
+pub record NextPiece (src piece : List ℕ) (at : ℕ) : Type 0 where
+  pub sixteens : (at + (length piece - 1)) % 16 ≡ 0
+  pub within : at + (length piece - 1) < length src
+  pub made : crlf_after (slice_index src 0) (take at (drop 1 src)) ++ crlf_after (slice_index piece 0) (drop 1 piece)
+      ≡ crlf_after (slice_index src 0) (take (at + (length piece - 1)) (drop 1 src))
+
+pub next-piece : (src rest piece : List ℕ) (at n : ℕ) → at < length src → at % 16 ≡ 0 → length src % 16 ≡ 1 → rest ≡ drop at src →
+    n ≡ min (length rest) 513 → piece ≡ take n rest → NextPiece src piece at
+next-piece src rest piece at n within sixteens all behind least is =
+    let long = ap length behind ∙ length-drop at src in
+    let many : length piece ≡ n = ap length is ∙ length-take-le n rest (omega (arith, least)) in
     let more : drop at src ≡ slice_index src at ∷ drop (at + 1) src = drop_more src at 0 within in
-    let m : n ≡ suc (n - 1) = omega (arith, some) in
+    let m : n ≡ suc (length piece - 1) = omega (arith, many, least, long, within) in
+    let spelled_out : piece ≡ slice_index src at ∷ take (length piece - 1) (drop (at + 1) src) =
+    is ∙ (λ i. take (m i) (behind i)) ∙ (λ i. take (suc (length piece - 1)) (more i)) in
     let front : List ℕ = crlf_after (slice_index src 0) (take at (drop 1 src)) in
-    let spelled_out : piece ≡ slice_index src at ∷ take (n - 1) (drop (at + 1) src) = is ∙ (λ i. take (m i) (more i)) in
-    ap (λ xs. front ++ crlf_after (slice_index xs 0) (drop 1 xs)) spelled_out ∙ crlf-further src at (n - 1) within
+    record {
+      sixteens = omega (arith, many, least, long, within, sixteens, all);
+      within = omega (arith, many, least, long, within);
+      made =
+          ap (λ xs. front ++ crlf_after (slice_index xs 0) (drop 1 xs)) spelled_out
+          ∙ crlf-further src at (length piece - 1) within;
+    }

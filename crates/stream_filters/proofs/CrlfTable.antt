@@ -1,11 +1,13 @@
 -- What the rows of the table of spread bytes are.
 use Rattle.std.proofs.Common.{◌≡◌, ℕ, zero, suc, ◌+◌, ◌*◌, ◌/◌, ◌%◌, ◌<◌, ◌≤◌, Bool, true, false, ◌&&◌, ◌==◌, if◌then◌else◌}
-use Rattle.std.proofs.Common.{List, [], ◌∷◌, ◌++◌, length, take, drop, get_or, map, refl, sym, true≢false, ◌∙◌, ap, arith, inl, inr, eqb, ltb, w8}
+use Rattle.std.proofs.Common.{List, [], ◌∷◌, ◌++◌, length, take, drop, get_or, map, refl, sym, true≢false, ◌∙◌, ap, arith, inl, inr, eqb, ltb}
+use Rattle.std.proofs.Common.{w8}
 use Rattle.std.specs.Prelude.{slice_index_or}
 use Rattle.std.specs.Simd.Lanes.{put_chunk, Each1}
 use Rattle.std.specs.Int.RustNames.{count_ones}
 use Rattle.std.proofs.lemmas.Bool.{cases_lt, eqb-true, ltb-true}
-use Rattle.std.proofs.lemmas.List.{ext_get_or, length-take-le, drop_more, take-map, length-map, get_or-map, take-append-le, take_all, drop-append-le, drop_all}
+use Rattle.std.proofs.lemmas.List.{ext_get_or, length-take-le, drop_more, take-map, length-map, get_or-map}
+use Rattle.std.proofs.lemmas.List.{take-append-le, take_all, drop-append-le, drop_all}
 use Rattle.std.proofs.Math.Seq.{take-add}
 use Rattle.std.proofs.lemmas.Simd.{put_chunk_is, swz_l, SwzOk, SwzOk-from_below, get_or-swz_l_below, length-swz_l, Each1-get_or}
 use Rattle.filter_model.specs.Filter.{CR}
@@ -52,7 +54,8 @@ row none bits = take 16 (slice_index_or SPREAD bits none)
 -- a row is 16 numbers below 16, the first of which are the places
 abbrev row_ok : List ℕ → ℕ → Bool
 row_ok none bits =
-    eqb (length (row none bits)) 16 && (ltb (count_ones bits) 9 && (all_low (row none bits) && same (take (8 + count_ones bits) (row none bits)) (places 0 8 bits)))
+    let js = row none bits in
+    eqb (length js) 16 && (ltb (count_ones bits) 9 && (all_low js && same (take (8 + count_ones bits) js) (places 0 8 bits)))
 
 abbrev all_under : (ℕ → Bool) → ℕ → Bool
 all_under test zero = true
@@ -96,8 +99,8 @@ module _ (xs : List ℕ) (cr : get_or xs 8 0 ≡ CR) where
       let e : suc from ≡ from + 1 = omega arith in
       let ih = picked (suc from) n (bits / 2) (omega arith) in
       go (bits % 2 == 1) (map at_place (places (suc from) n (bits / 2))) refl
-      ∙ (λ i. (if bits % 2 == 1 then CR ∷ get_or xs from 0 ∷ [] else get_or xs from 0 ∷ []) ++ ih i)
-      ∙ (λ i. (if bits % 2 == 1 then CR ∷ get_or xs from 0 ∷ [] else get_or xs from 0 ∷ []) ++ with_crs (bits / 2) (take n (drop (e i) xs)))
+      ∙ ap (λ ys. (if bits % 2 == 1 then CR ∷ get_or xs from 0 ∷ [] else get_or xs from 0 ∷ []) ++ ys)
+      (ih ∙ (λ i. with_crs (bits / 2) (take n (drop (e i) xs))))
       ∙ (λ i. with_crs bits (take (suc n) (sym more i)))
     where
       go : (b : Bool) (rest : List ℕ) → rest ≡ map at_place (places (suc from) n (bits / 2)) →

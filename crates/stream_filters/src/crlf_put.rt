@@ -44,7 +44,7 @@ fn put_behind_first(src: &[u8], dst: &mut Vec<u8>)
     }
 }
 
-/// Appends what a byte and as many sixteens of bytes as follow make, where this byte came before them.
+/// Appends what a byte and sixteens of bytes behind it make, where `last` is the byte before them.
 pub(crate) fn put_crlf(last: Option<u8>, src: &[u8], dst: &mut Vec<u8>)
     requires sixteens { length src.now % 16 ≡ 1 }
     requires room { vec_len dst.old + length (crlf_after (unwrap_or last 0) src.now) ≤ vec_capacity dst.old }

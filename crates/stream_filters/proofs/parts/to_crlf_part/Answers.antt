@@ -35,7 +35,8 @@ put_line_end-requires c =
     let short : run < c.args.limit - c.len-2.result = omega (arith, c.if-len-limit.false, done.len) in
     let room = line-room kind.ToCrlf c.args.limit known.used known.last src old.items c.put_before-run.new.dst.items run LF within
     (done.stop within short) (omega arith) plain refl done.items old.cap c.requires.room in
-    let added = ap (λ last. length (adds kind.ToCrlf 0 last LF)) (c.last_behind.ensures ∙ ap (last_or known.last) c.split_at-2.ensures.front) in
+    let added = ap (λ last. length (adds kind.ToCrlf 0 last LF))
+    (c.last_behind.ensures ∙ ap (last_or known.last) c.split_at-2.ensures.front) in
     omega (arith, room, added, done.capacity)
 
 pub returns-then-run-src-clause-part : goal.returns-then-run-src-clause-part
