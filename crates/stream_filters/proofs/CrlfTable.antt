@@ -1,6 +1,7 @@
 -- What the rows of the table of spread bytes are.
 use Rattle.std.proofs.Common.{◌≡◌, ℕ, zero, suc, ◌+◌, ◌*◌, ◌/◌, ◌%◌, ◌<◌, ◌≤◌, Bool, true, false, ◌&&◌, ◌==◌, if◌then◌else◌}
-use Rattle.std.proofs.Common.{List, [], ◌∷◌, ◌++◌, length, take, drop, get_or, map, refl, sym, true≢false, ◌∙◌, ap, arith, inl, inr, eqb, ltb}
+use Rattle.std.proofs.Common.{List, [], ◌∷◌, ◌++◌, length, take, drop, get_or, map, refl, sym, true≢false, ◌∙◌, ap, arith}
+use Rattle.std.proofs.Common.{inl, inr, eqb, ltb}
 use Rattle.std.proofs.Common.{w8}
 use Rattle.std.specs.Prelude.{slice_index_or}
 use Rattle.std.specs.Simd.Lanes.{put_chunk, Each1}
