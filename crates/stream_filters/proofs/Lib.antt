@@ -8,6 +8,9 @@ pub mod InPlaceLemmas
 pub mod ShiftLemmas
 pub mod HouseSteps
 pub mod StreamShift
+pub mod CrlfTable
+pub mod CrlfLemmas
+pub mod CrlfRuns
 pub mod PairLemmas
 pub mod BlockLemmas
 pub mod BytewiseLemmas

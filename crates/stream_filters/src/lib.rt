@@ -4,6 +4,9 @@
 #![tactic(auto)]
 
 mod any;
+mod crlf_lanes;
+mod crlf_put;
+mod crlf_table;
 mod digits;
 mod fault;
 mod filters;

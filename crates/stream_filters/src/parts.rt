@@ -7,6 +7,7 @@ ghost use Rattle.filter_model.specs.FilterRun.{adds};
 ghost use Rattle.stream_filters.specs.Knowledge.{IsDigitLast};
 ghost use Rattle.stream_filters.specs.Parts.{AppendsPart, HasRoom};
 
+use crate::crlf_put::put_crlf;
 use crate::hex_parts::{hex_in_part, hex_out_part};
 use crate::knowledge::Knowledge;
 use crate::put::{put, put_byte};
@@ -42,7 +43,8 @@ fn put_line_end(last: Option<u8>, dst: &mut Vec<u8>)
     put_byte(dst, LF);
 }
 
-/// The bytes before an LF and the LF itself, as far as the limit allows.
+/// A byte and sixteens of bytes behind it, where what they make is surely below the limit; else the bytes before an LF and the
+/// LF itself, as far as the limit allows.
 fn to_crlf_part(known: &Knowledge, src: &[u8], dst: &mut Vec<u8>, limit: usize) -> usize
     requires some { 0 < length src.now }
     requires below { vec_len dst.old < limit }
@@ -50,6 +52,12 @@ fn to_crlf_part(known: &Knowledge, src: &[u8], dst: &mut Vec<u8>, limit: usize) 
     ensures part { AppendsPart kind_of.ToCrlf limit known.now.used known.now.last src.now dst.old.items dst.new.items result }
     ensures capacity { vec_capacity dst.old ≤ vec_capacity dst.new }
 {
+    let most = src.len().min((limit - dst.len()) / 2);
+    if most > 16 {
+        let used = (most - 1) / 16 * 16 + 1;
+        put_crlf(known.last, src.split_at(used).0, dst);
+        return used;
+    }
     let run = put_before(LF, src, dst, limit - dst.len());
     if run == src.len() || dst.len() == limit {
         return run;
