@@ -1,4 +1,4 @@
-//! Many bytes at a time: their hex digits, and what hex digits spell. What is left over is left to others.
+// Many bytes at a time: their hex digits, and what hex digits spell. What is left over is left to others.
 ghost use Rattle.std.specs.Prelude.{◌≡◌, ◌≤◌, ◌<◌, ◌*◌, ℕ, List, true, length, map, nat_lt, take};
 ghost use Rattle.std.specs.List.{list_all};
 ghost use Rattle.std.specs.Simd.Lanes.{Each1};
