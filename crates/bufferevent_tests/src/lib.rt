@@ -7,6 +7,8 @@ mod blocks;
 #[cfg(test)]
 mod bufferevents;
 #[cfg(test)]
+mod by_number;
+#[cfg(test)]
 mod callbacks;
 #[cfg(test)]
 mod chunks;

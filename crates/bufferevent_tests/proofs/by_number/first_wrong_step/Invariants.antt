@@ -1,5 +1,5 @@
 use Rattle.std.proofs.Common.{◌≡◌, false}
-use Rattle.bufferevent_tests.proofs.worlds.first_wrong_step.Given as goal
+use Rattle.bufferevent_tests.proofs.by_number.first_wrong_step.Given as goal
 
 abbrev pub invariant-loop-place : goal.invariant-loop-place
 invariant-loop-place l = l.world.chunked ≡ false
