@@ -7,3 +7,4 @@ pub mod ReadLemmas
 pub mod CallLemmas
 pub mod OpeningLemmas
 pub mod PassLemmas
+pub mod DoneLemmas

@@ -393,6 +393,23 @@ few_more r h = at (nat_lt (length r.links.items + 1) (2 ^ 32)) refl
         (λ i. if e i && nat_lt (vec_len r.links) (vec_capacity r.links) then room_for r r.ready else 0) in
         absurd (omega (arith, h, none))
 
+if-some : (b : Bool) (n : ℕ) → 0 < (if b then n else 0) → (b ≡ true) × (0 < n)
+if-some true n h = (refl, h)
+if-some false n h = absurd (omega (arith, h))
+
+and-second : (a b : Bool) → a && b ≡ true → b ≡ true
+and-second true b h = h
+and-second false b h = absurd (cc h)
+
+-- where there is room for a link in a new bay, that can be given back
+pub bay_room : (r : Inside) → r.ready ≡ None → 0 < links_spare r → vec_len r.owners < vec_capacity r.free
+bay_room r none h =
+    let few : Bool = nat_lt (length r.links.items + 1) (2 ^ 32) && nat_lt (vec_len r.links) (vec_capacity r.links) in
+    let own : Bool = nat_lt (vec_len r.owners) (vec_capacity r.owners) in
+    let back : Bool = nat_lt (vec_len r.owners) (vec_capacity r.free) in
+    let room : 0 < room_for r None = subst (λ o. 0 < room_for r o) none (if-some few (room_for r r.ready) h).1 in
+    ltb-true (vec_len r.owners) (vec_capacity r.free) (and-second own back (if-some (own && back) r.sides.spare_links room).0)
+
 -- A link leaves its bay
 
 alone-side : (k : Links) (bay : ℕ) (s : Side) → side_at k (side_of bay s) ≡ side_at (link_alone k bay) (side_of 0 s)

@@ -10,6 +10,7 @@ use Rattle.relay_state.specs.Closing.{in_side, out_side}
 use Rattle.relay_state.specs.Passage.{Passage, pass_round, SomeRounds, Passed}
 use Rattle.relay_sides.specs.LinkPasses.{PassedLink, PartlyPassedLink, NoRoundChanges, NoRoundOfLinkChanges}
 use Rattle.relay_sides.specs.Links.{Links, side_at, passage_at, with_passage, round_from, PassedFrom, PartlyPassed}
+use Rattle.relay_sides.specs.Progress.{is_settled, is_settled_from}
 use Rattle.relay_sides.proofs.LinksLemmas.{with_same}
 use Rattle.relay_pool.specs.PoolView.{links_seen, ArePooled}
 use Rattle.relay_pool.specs.Stays.{link_in, stay_at, IsBay}
@@ -25,6 +26,16 @@ module _ (hold from to : ℕ) (old new : Links) (i : Image from to old new) (s :
   round_same = λ j.
       pass_round (mark_or (i.side s j).marks.read_high most_at_once) (mark_or (i.side (other s) j).marks.write_high hold) (i.side s j).ended
       (i.side s j).live (i.side (other s) j).live
+
+  pub settled_same : is_settled_from hold new (side_of to s) ≡ is_settled_from hold old (side_of from s)
+  settled_same = λ j.
+      is_settled (record {
+        mark = mark_or (i.side s j).marks.read_high most_at_once;
+        hold = mark_or (i.side (other s) j).marks.write_high hold;
+        ended = (i.side s j).ended;
+        from_live = (i.side s j).live;
+        to_live = (i.side (other s) j).live;
+      }) (image_passage from to old new i s j)
 
   pub still_same : NoRoundChanges hold old (side_of from s) → NoRoundChanges hold new (side_of to s)
   still_same h =
@@ -133,6 +144,10 @@ module _ (r : Inside) (inv : ArePooled r) (link : ℕ) (b : link < length r.link
   partly_in k (inl h) = inl (partly_seen base k near_base In h)
   partly_in k (inr (m, (x, h, e), rest)) =
       inr (seen m, passed_seen base m near_base In (x, h, e), partly_seen m k (near_put base m near_base In x e) Out rest)
+
+  pub settled_in : (s : Side) → is_settled_from hold (links_seen r.links.items r.sides.links) (side_of link s) ≡ true →
+      is_settled_from hold r.sides.links (side_of (link_in (stay_at r.links.items link)) s) ≡ true
+  settled_in s h = sym (settled_same hold bay link base (seen base) (image_bay r inv link b in_bay) s) ∙ h
 
   pub still_in : NoRoundOfLinkChanges hold r.sides.links (link_in (stay_at r.links.items link)) →
       NoRoundOfLinkChanges hold (links_seen r.links.items r.sides.links) link

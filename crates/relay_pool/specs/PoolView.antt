@@ -1,6 +1,7 @@
 -- How a pool keeps its links: those that are not over in the bays of `relay_sides`, where each bay has at most one, and what is left of
 -- the others.
-use Rattle.std.specs.Prelude.{◌≡◌, ◌<◌, ◌+◌, ◌*◌, ◌/◌, ◌%◌, ◌^◌, ℕ, ◌&&◌, nat_lt, if◌then◌else◌, List, length, slice_index_or, slice_get}
+use Rattle.std.specs.Prelude.{◌≡◌, ◌<◌, ◌+◌, ◌*◌, ◌/◌, ◌%◌, ◌^◌, ℕ, ◌&&◌, nat_lt, if◌then◌else◌, List, length, map}
+use Rattle.std.specs.Prelude.{slice_index_or, slice_get}
 use Rattle.std.specs.Prelude.{Option, Some, None, IfSome, vec_len, vec_capacity}
 use Rattle.relay_model.specs.Plain.{no_side}
 use Rattle.relay_model.specs.Flow.{no_flow}
@@ -9,7 +10,7 @@ use Rattle.relay_state.specs.State.{no_lane}
 use Rattle.relay_sides.specs.Links.{Links}
 use Rattle.relay_sides.specs.Pairs.{HasPairs}
 use Rattle.relay_sides.specs.Table.{tabulate}
-use Rattle.relay_pool.specs.Stays.{links_with, link_in, stay_at, IsStay}
+use Rattle.relay_pool.specs.Stays.{links_with, link_in, stay_at, IsStay, is_in_bay}
 use Rattle.relay_pool.specs.PoolValue.{PoolValue}
 use Rattle.relay_pool.specs.declared.pool.LinkPool.TheInside.{Inside}
 use Rattle.relay_pool.specs.declared.stay.Stay.{Stay}
@@ -34,9 +35,10 @@ abbrev pub room_in : List ℕ → Stay → ℕ → ℕ
 room_in reads (stay.Bay bay) n = slice_index_or reads (2 * bay + n) 0
 room_in reads (stay.Over over) n = 0
 
--- A link more has a bay that was given back, or a new one.
+-- A link more has a bay that was given back, or a new one; there is room to give back that one too.
 abbrev pub bays_of : Inside → ℕ
-bays_of r = if nat_lt (vec_len r.owners) (vec_capacity r.owners) then r.sides.spare_links else 0
+bays_of r =
+    if nat_lt (vec_len r.owners) (vec_capacity r.owners) && nat_lt (vec_len r.owners) (vec_capacity r.free) then r.sides.spare_links else 0
 
 abbrev pub room_for : Inside → Option ℕ → ℕ
 room_for r (Some bay) = 1
@@ -51,6 +53,7 @@ pool_of r = record {
   links = links_seen r.links.items r.sides.links;
   spare_links = links_spare r;
   spare_reads = tabulate (λ n. room_in r.sides.spare_reads (stay_at r.links.items (n / 2)) (n % 2)) (2 * length r.links.items);
+  kept = map is_in_bay r.links.items;
 }
 
 -- Each bay has an owner or none. The one that is ready for the next link has none.

@@ -1,5 +1,5 @@
 -- Where links are, and what is so of one that is over.
-use Rattle.std.specs.Prelude.{◌≡◌, ⊤, ℕ, true, false, List, [], slice_index_or, slice_set, slice_get, Option, Some, None}
+use Rattle.std.specs.Prelude.{◌≡◌, ⊤, ℕ, Bool, true, false, List, [], slice_index_or, slice_set, slice_get, Option, Some, None}
 use Rattle.ev_types.specs.declared.side.SideId.{SideId}
 use Rattle.ev_types.specs.Sides.{peer}
 use Rattle.relay_state.specs.Closing.{in_side, out_side}
@@ -30,6 +30,10 @@ at_stay x e = record { link = link_in x; side = e.side }
 abbrev pub IsBay : Stay → Type 0
 IsBay (stay.Bay bay) = ⊤
 IsBay (stay.Over over) = ⊥
+
+abbrev pub is_in_bay : Stay → Bool
+is_in_bay (stay.Bay bay) = true
+is_in_bay (stay.Over over) = false
 
 -- it is over
 abbrev pub IsOutOfBay : Stay → Type 0

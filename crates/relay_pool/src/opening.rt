@@ -1,9 +1,11 @@
 // Opening links, and giving up the bays of those that are over.
-ghost use Rattle.std.specs.Prelude.{◌≡◌, ◌≤◌, ◌<◌, ◌+◌, true, None, [], Some, OnOk, IfSome, slice_get};
+ghost use Rattle.std.specs.Prelude.{◌≡◌, ◌≤◌, ◌<◌, ◌+◌, ◌-◌, true, false, None, [], Some, OnOk, IsOk, IfSome, slice_get, slice_index};
+ghost use Rattle.std.specs.Prelude.{vec_len, vec_capacity};
 ghost use Rattle.ev_types.specs.Sides.{peer};
 ghost use Rattle.relay_sides.specs.Links.{with_link, side_at, lane_at};
 ghost use Rattle.relay_sides.specs.Opening.{limits_of};
 ghost use Rattle.relay_pool.specs.Over.{link_alone};
+ghost use Rattle.relay_pool.specs.PoolValue.{is_done_side, is_done_link, is_kept};
 ghost use Rattle.relay_pool.specs.Stays.{IsRemnant, IsDoneSide};
 
 use crate::bay::bay_of;
@@ -16,9 +18,12 @@ use relay_sides::{NewSide, Sides, SpareLimits};
 /// How many links can be opened: their numbers are below 2^32 - 1.
 const MOST_LINKS: usize = u32::MAX as usize;
 
-/// Takes one of the bays that were given back, which has no link. None where there is none.
+/// Takes the bay that was given back last, which has no link. None where there is none.
 fn take_free(free: &mut Vec<u32>, owners: &Vec<Option<u32>>) -> Option<u32>
-    ensures { IfSome result (λ bay. slice_get owners.now.items bay ≡ Some None) }
+    ensures free { IfSome result (λ bay. slice_get owners.now.items bay ≡ Some None) }
+    ensures last { 0 < vec_len free.old → slice_get owners.now.items (slice_index free.old.items (vec_len free.old - 1)) ≡ Some None →
+        result ≡ Some (slice_index free.old.items (vec_len free.old - 1)) }
+    ensures capacity { vec_capacity free.new ≡ vec_capacity free.old }
 {
     let bay = free.pop()?;
     match owners.get(bay as usize) {
@@ -30,7 +35,8 @@ fn take_free(free: &mut Vec<u32>, owners: &Vec<Option<u32>>) -> Option<u32>
 /// Whether nothing is to be done at a side any more: it is freed and shut, and has no reference.
 fn is_idle(sides: &Sides, side: SideId) -> bool
     requires { side.link < sides.now.links.opened }
-    ensures { result ≡ true → IsDoneSide sides.now.links side }
+    ensures told { result ≡ is_done_side sides.now.links side }
+    ensures done { result ≡ true → IsDoneSide sides.now.links side }
 {
     let flags = sides.flags(side);
     !flags.live
@@ -68,6 +74,7 @@ impl LinkPool {
     pub fn reserve_link(&mut self) -> Result<(), NoMemory>
         ensures links { self.new.links ≡ self.old.links }
         ensures room { OnOk result (0 < self.new.spare_links) }
+        ensures there { 0 < self.old.spare_links → IsOk result }
     {
         if self.links.len() >= MOST_LINKS {
             return Err(NoMemory);
@@ -80,7 +87,8 @@ impl LinkPool {
             return Ok(());
         }
         self.owners.reserve(1)?;
-        self.free.reserve(self.owners.len() + 1)?;
+        self.free
+            .reserve((self.owners.len() + 1).saturating_sub(self.free.len()))?;
         self.sides.reserve_link()
     }
 
@@ -121,7 +129,8 @@ impl LinkPool {
     /// Own.
     pub fn leave(&mut self, link: u32)
         requires { link < self.old.links.opened }
-        ensures { self.new.links ≡ self.old.links }
+        ensures links { self.new.links ≡ self.old.links }
+        ensures over { is_done_link self.old.links link ≡ true → is_kept self.new link ≡ false }
     {
         let Some(bay) = bay_of(&self.links, link) else {
             return;
@@ -133,12 +142,10 @@ impl LinkPool {
         if !is_idle(&self.sides, near) || !is_idle(&self.sides, near.peer()) {
             return;
         }
-        // there is room for all bays
-        if self.free.push(bay).is_err() {
-            return;
-        }
         let over = left_of(&self.sides, near);
         self.links[link as usize] = Stay::Over(over);
         self.owners[bay as usize] = None;
+        // its room was made with the bay
+        let _ = self.free.push(bay);
     }
 }

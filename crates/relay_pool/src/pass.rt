@@ -1,6 +1,8 @@
 // Passing a link.
-ghost use Rattle.std.specs.Prelude.{◌≡◌, ◌<◌, MatchResult, Ok, false};
+ghost use Rattle.std.specs.Prelude.{◌≡◌, ◌<◌, MatchResult, Ok, true, false};
+ghost use Rattle.relay_state.specs.Closing.{in_side, out_side};
 ghost use Rattle.relay_sides.specs.LinkPasses.{PassedLink, PartlyPassedLink, NoRoundOfLinkChanges};
+ghost use Rattle.relay_sides.specs.Progress.{is_settled_from};
 
 use crate::bay::bay_of;
 use crate::pool::LinkPool;
@@ -20,6 +22,8 @@ impl LinkPool {
             (λ changed. PassedLink hold self.old.links link changed self.new.links)
             (λ _. PartlyPassedLink hold self.old.links link self.new.links) }
         ensures still { result ≡ Ok false → NoRoundOfLinkChanges hold self.old.links link }
+        ensures settled { is_settled_from hold self.old.links (in_side link) ≡ true →
+            is_settled_from hold self.old.links (out_side link) ≡ true → result ≡ Ok false }
     {
         match bay_of(&self.links, link) {
             Some(bay) => self.sides.pass_link(bay, hold),
