@@ -1,5 +1,5 @@
 // The links that are watched, and the moments of the sides of the others.
-ghost use Rattle.std.specs.Prelude.{◌≡◌, ℕ, ◌+◌, ◌^◌, ◌≤◌, [], true, false, OnOk};
+ghost use Rattle.std.specs.Prelude.{◌≡◌, ℕ, ◌+◌, ◌^◌, ◌≤◌, [], true, false, OnOk, IsOk};
 ghost use Rattle.next_moments.specs.Earliest.{NoneIsDue};
 ghost use Rattle.resting_links.specs.RestingValue.{HasPlaces, Wakes, Rests, Lengthens, IsFirstMoment};
 
@@ -60,13 +60,14 @@ impl RestingLinks {
     }
 
     /// Makes places for the first links, so many. A new one is not watched and its sides have no moment. Takes memory where there are
-    /// fewer; linear in what is added.
+    /// fewer, and else none; linear in what is added.
     ///
     /// Own.
     pub fn lengthen(&mut self, links: usize) -> Result<(), NoMemory>
         requires { links ≤ 2 ^ 32 }
         ensures longer { Lengthens self.old self.new }
         ensures room { OnOk result (HasPlaces links self.new) }
+        ensures already { HasPlaces links self.old → IsOk result }
     {
         self.watched.lengthen(links)?;
         self.moments.lengthen(2 * links)?;
