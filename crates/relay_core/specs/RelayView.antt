@@ -57,6 +57,7 @@ relay_of r = record {
   state = state_with r r.sides.links;
   spare_links = if has_room_for_rates r then r.sides.spare_links else 0;
   spare_reads = r.sides.spare_reads;
+  kept = r.sides.kept;
   untimed = r.untimed;
   watched = r.resting.watched;
   me = r.me;

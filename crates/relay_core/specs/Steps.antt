@@ -1,6 +1,6 @@
 -- The steps of closing as the code names them: their order, what they change, and what they put into the trace. A step that frees both
 -- sides of a link is two for the model, and here it is one.
-use Rattle.std.specs.Prelude.{◌≡◌, ℕ, Bool, false, ◌&&◌, not, is_some, List, [], ◌∷◌, Option, Some, None, option_map}
+use Rattle.std.specs.Prelude.{◌≡◌, ⊤, ℕ, Bool, false, ◌&&◌, not, is_some, List, [], ◌∷◌, Option, Some, None, option_map}
 use Rattle.std.specs.List.{All}
 use Rattle.ev_types.specs.declared.why.Cause.TheVariants as cause
 use Rattle.ev_types.specs.declared.entry.Entry.{Entry}
@@ -10,6 +10,7 @@ use Rattle.relay_model.specs.Plain.{PlainSide, side_at}
 use Rattle.relay_model.specs.Close.{CloseStep, fault, freed_entry}
 use Rattle.relay_state.specs.State.{State}
 use Rattle.relay_state.specs.Closing.{in_side, out_side, closed, closing_entry}
+use Rattle.relay_core.specs.RelayValue.{RelayValue, IsLeftWhereDone}
 use Rattle.relay_core.specs.declared.close.Closing.{Closing}
 use Rattle.relay_core.specs.declared.close.Closing.TheVariants as closing
 
@@ -27,6 +28,11 @@ link_of_step (closing.EndWriting e) = e.link
 link_of_step (closing.BothDone k) = k
 link_of_step (closing.PeerGone e) = e.link
 link_of_step (closing.Shut e) = e.link
+
+-- where a step shuts a side, its link is not kept whole if it is over
+abbrev pub LeavesWhereDone : Closing → RelayValue → Type 0
+LeavesWhereDone (closing.Shut e) r = IsLeftWhereDone r e.link
+LeavesWhereDone _ r = ⊤
 
 -- the step as the model names it
 abbrev pub close_step : Closing → CloseStep

@@ -6,6 +6,7 @@ ghost use Rattle.relay_model.specs.Close.{closing_of, fault};
 ghost use Rattle.relay_state.specs.State.{lane_at, with_plain, with_lane, lane_left, lane_lost};
 ghost use Rattle.relay_state.specs.Closing.{is_complete, closing_entry, freed};
 ghost use Rattle.relay_core.specs.Steps.{steps_of, link_of_step, close_step, after_closing, is_running_side, is_running, IsSettled};
+ghost use Rattle.relay_core.specs.Steps.{LeavesWhereDone};
 
 use crate::relay::Relay;
 use ev_types::{Cause, Side, SideId};
@@ -120,10 +121,12 @@ impl Relay {
         self.is_running_side(near) & self.is_running_side(near.peer())
     }
 
-    /// Makes the change of a step of closing. Takes no memory; constant.
+    /// Makes the change of a step of closing. Of a link that is over behind its last step only what its report needs is kept. Takes no
+    /// memory; constant.
     pub fn close(&mut self, step: Closing)
         requires { link_of_step step < self.old.state.plain.opened }
-        ensures { self.new.state ≡ after_closing self.old.state step }
+        ensures state { self.new.state ≡ after_closing self.old.state step }
+        ensures left { LeavesWhereDone step self.new }
     {
         match step {
             Closing::Faulty(side) | Closing::PeerGone(side) => self.ctl.free_side(side),

@@ -37,3 +37,4 @@ pub use rate_groups::RateGroups;
 pub use relay::Relay;
 pub use relay_pool::LinkPool;
 pub use relay_sides::{Counts, Lengths, SideFlags};
+pub use room::Wants;

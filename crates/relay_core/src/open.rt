@@ -1,5 +1,5 @@
 // Opening links.
-ghost use Rattle.std.specs.Prelude.{◌≡◌, ◌+◌, ◌<◌, ◌≤◌, ◌||◌, nat_le, nat_lt, true, length, OnOk};
+ghost use Rattle.std.specs.Prelude.{◌≡◌, ◌+◌, ◌<◌, ◌≤◌, ◌||◌, nat_le, nat_lt, true, [], length, OnOk, IsOk};
 ghost use Rattle.relay_state.specs.Opening.{after_opened};
 ghost use Rattle.relay_sides.specs.Opening.{limits_in};
 ghost use Rattle.relay_core.specs.Pairs.{HasPairs};
@@ -31,10 +31,12 @@ impl Relay {
         self.ctl.sides.opened() < self.ctl.settings.links
     }
 
-    /// Makes room for one link more, with its limits and memberships. Takes memory; constant, but where the room grows.
+    /// Makes room for one link more, with its limits and memberships. Takes memory where there is no such room, and where there are groups;
+    /// constant, but where the room grows.
     pub fn reserve_link(&mut self) -> Result<(), NoMemory>
         ensures state { self.new.state ≡ self.old.state }
         ensures room { OnOk result (0 < self.new.spare_links) }
+        ensures there { 0 < self.old.spare_links → self.old.state.settings.groups ≡ [] → IsOk result }
     {
         let ctl = &mut self.ctl;
         ctl.asks = MOST_ASKS;
@@ -74,6 +76,13 @@ impl Relay {
     }
 }
 
+/// How many limits a new link has.
+fn limits_of_link(settings: &Settings) -> usize
+    ensures { result ≡ limits_in settings.now.in_rate + limits_in settings.now.out_rate }
+{
+    usize::from(settings.in_rate.is_some()) + usize::from(settings.out_rate.is_some())
+}
+
 /// Makes memory for the limits of one link more, and room for its sides in the groups.
 fn reserve_rates(
     settings: &Settings,
@@ -85,10 +94,10 @@ fn reserve_rates(
     ensures more { spare.old ≤ spare.new }
     ensures limits { OnOk result (limits_in settings.now.in_rate + limits_in settings.now.out_rate ≤ spare.new) }
     ensures members { OnOk result (nat_le (length given.now.groups.items) 0 || nat_le 2 groups.new.spare ≡ true) }
+    ensures there { limits_in settings.now.in_rate + limits_in settings.now.out_rate ≤ spare.old → given.now.groups.items ≡ [] →
+        IsOk result }
 {
-    if settings.in_rate.is_some() || settings.out_rate.is_some() {
-        spare.reserve(2)?;
-    }
+    spare.reserve(limits_of_link(settings))?;
     if !given.groups.is_empty() && groups.reserve_members(2).is_err() {
         return Err(NoMemory);
     }

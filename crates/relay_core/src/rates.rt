@@ -1,5 +1,5 @@
 // What limits and groups leave to sides, and what they lose as bytes are moved.
-ghost use Rattle.std.specs.Prelude.{◌≡◌, ◌<◌, ◌≤◌, ◌+◌, true, length, IfSome};
+ghost use Rattle.std.specs.Prelude.{◌≡◌, ◌<◌, ◌≤◌, ◌+◌, ◌&&◌, true, length, IfSome, is_some};
 ghost use Rattle.ev_types.specs.Sides.{number};
 ghost use Rattle.rate_group.specs.Steps.{share_in, spent, left};
 ghost use Rattle.relay_model.specs.Plain.{side_at};
@@ -74,11 +74,21 @@ impl Ctl {
         requires live { (side_at self.now.state.plain side).live ≡ true }
         ensures { result ≡ within_rates self.now.state side dir count }
     {
-        if count == 0 {
-            return 0;
+        if count == 0 || self.untimed {
+            return count;
         }
         let own = at_most(self.sides.allowance(side, dir, self.time), count);
         at_most(self.groups.share(side.number() as u64, dir), own)
+    }
+
+    /// Whether a side is live and has a limit.
+    fn is_limited(&self, side: SideId, dir: Dir) -> bool
+        requires { side.link < self.now.state.plain.opened }
+        ensures { result ≡ ((side_at self.now.state.plain side).live && is_some (allowance self.now.state side dir)) }
+    {
+        !self.untimed
+            && self.sides.is_live(side)
+            && self.sides.allowance(side, dir, self.time).is_some()
     }
 
     /// The side moves so many bytes in a direction, no more than limit and group leave it.
@@ -92,8 +102,7 @@ impl Ctl {
         ensures fire { SameFire self.old self.new }
         ensures reads { self.new.spare_reads ≡ self.old.spare_reads }
     {
-        let limited = self.sides.is_live(side)
-            && self.sides.allowance(side, dir, self.time).is_some();
+        let limited = self.is_limited(side, dir);
         watch_where(&mut self.resting, side.link, limited);
         self.sides.spend(side, dir, count as u64, self.time);
         spend_share(&mut self.groups, side.number() as u64, dir, count as u64);

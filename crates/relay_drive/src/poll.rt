@@ -19,7 +19,7 @@ use crate::naming::Naming;
 use crate::run::{Run, put};
 use ev_port::{Polled, Port, Scribe, Want, WantTable};
 use ev_types::{Entry, Side, SideId};
-use relay_core::Relay;
+use relay_core::{Relay, Wants};
 
 /// The table says of a side what it wants now.
 fn name_side(relay: &Relay, wants: &mut WantTable, side: SideId)
@@ -27,7 +27,8 @@ fn name_side(relay: &Relay, wants: &mut WantTable, side: SideId)
     requires there { side.link < wants.old.links }
     ensures { NamedSide relay.now.state side wants.old wants.new }
 {
-    wants.set(side, relay.wants_read(side), relay.wants_write(side));
+    let Wants { read, write } = relay.wants_of(side);
+    wants.set(side, read, write);
 }
 
 /// And of both sides of a link.

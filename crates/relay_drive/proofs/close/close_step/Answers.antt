@@ -21,7 +21,7 @@ returns-clause-went g c =
     let f = g.P.Port.faults c.args.port.now in
     let h = g.P.Port.faults c.tell.new.port in
     let yes : is_some (closing_entry s (close_step step)) ≡ true = sym c.calls_for.ensures ∙ c.if-not-calls_for.false in
-    let state : new ≡ after_closing s step = c.close.ensures
+    let state : new ≡ after_closing s step = c.close.ensures.state
     ∙ ap (λ (r : RelayValue). after_closing r.state step) c.put_closing.ensures.relay in
     goes_served g.met.P.Port.waits_no_more l0 (g.S.Scribe.trace c.put_closing.new.scribe) f h events (closing_served s step)
     (subst (λ b. MatchBool b (Closes step s events new) (Nothing s events new)) (sym yes) (record { entries = refl; state = state }))

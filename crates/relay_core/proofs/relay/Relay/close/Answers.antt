@@ -12,5 +12,5 @@ invariant_of-self-inside c =
 pub invariant_of-self-inside-in-Shut-1 : goal.invariant_of-self-inside-in-Shut-1
 invariant_of-self-inside-in-Shut-1 c =
     changed_sound c.self-inside-in-Shut.inside.0.0 c.leave.new.self c.in-Shut.side (λ (x : PlainSide). record x { closed = true })
-    c.self-inside-in-Shut.invariant (c.leave.ensures ∙ c.shut.ensures)
+    c.self-inside-in-Shut.invariant (c.leave.ensures.links ∙ c.shut.ensures)
     (λ x. record { alike = record { live = refl; timeouts = refl; expired = refl; limit = refl }; read = refl; write = refl })
