@@ -21,6 +21,22 @@ const STREAMS: &[Stream] = &[
     (FilterKind::HexOut, "Az\n", "417a0a"),
     (FilterKind::HexIn, "417A0a", "Az\n"),
     (FilterKind::HexIn, "", ""),
+    // more than vectors of sixteen bytes
+    (
+        FilterKind::ToCrlf,
+        "\nseventeen bytes \r\n\n\r\n\n\nand sixteen more\r\r\n one\n behind it.\n",
+        "\r\nseventeen bytes \r\n\r\n\r\n\r\n\r\nand sixteen more\r\r\n one\r\n behind it.\r\n",
+    ),
+    (
+        FilterKind::HexOut,
+        "sixteen bytes at once, and three",
+        "7369787465656e206279746573206174206f6e63652c20616e64207468726565",
+    ),
+    (
+        FilterKind::HexIn,
+        "7369787465656e206279746573206174206f6e63652C20616E64207468726565",
+        "sixteen bytes at once, and three",
+    ),
 ];
 
 /// How a stream is offered: in pieces of so many bytes, each up to a limit.
@@ -63,7 +79,7 @@ fn put_pieces(
     all: &mut Vec<u8>,
 ) -> Result<(), FilterFault> {
     let mut rest = stream;
-    for _ in 0..64usize {
+    for _ in 0..128usize {
         if filter.is_finished() || filter.used() > 1000 {
             break;
         }
@@ -156,6 +172,14 @@ fn a_held_cr_outlives_a_step(rt: HostRuntime) {
     assert_eq!(rt; plays(&mut ToLf::new(), rt.alloc(), HELD_CR), None);
 }
 
+const LATE_BAD_BYTE: &[Part] = &[(
+    "7369787465656e206279746573206174206f6e63652c2g616e64207468726565",
+    100,
+    Mode::Finished,
+    Bad(45, 45),
+    "sixteen bytes at once,",
+)];
+
 const BAD_BYTE: &[Part] = &[
     ("41", 100, Mode::Normal, Went(2, false), "A"),
     ("42g4", 100, Mode::Normal, Bad(2, 4), "AB"),
@@ -165,6 +189,7 @@ const BAD_BYTE: &[Part] = &[
 #[test]
 fn a_bad_byte_is_told_again(rt: HostRuntime) {
     assert_eq!(rt; plays(&mut HexIn::new(), rt.alloc(), BAD_BYTE), None);
+    assert_eq!(rt; plays(&mut HexIn::new(), rt.alloc(), LATE_BAD_BYTE), None);
 }
 
 const ODD_DIGIT: &[Part] = &[("414", 100, Mode::Finished, Bad(3, 3), "A")];
