@@ -11,6 +11,9 @@ use std::mem::swap;
 /// The least part of what lies before the end, as a divisor, that the bytes fill behind a start.
 const SPARSE: usize = 3;
 
+/// The least part of the bytes, as a divisor, by which room grows beyond twice what is used.
+const SLACK: usize = 4;
+
 /// Bytes in order, in one piece, and how many more fit behind them without taking memory. They are appended at the end and
 /// taken from the front; taking some costs their number, over many calls. The bytes, the room before and the room behind
 /// are all the memory that is kept.
@@ -84,7 +87,16 @@ impl ByteQueue {
         self.kept.len() - self.end
     }
 
-    /// Makes room behind the bytes for so many more. Where there is less it takes memory: for what is used twice over, so that
+    // By how much room grows beyond twice what is used: by what lies before the start, or by a quarter of the bytes. So the blocks that
+    // a growing queue leaves behind are together less than the last one. The C library, which gives what is free at its end back to the
+    // system once that is twice the longest block, keeps them for the next queue.
+    fn slack(&self) -> usize
+        ensures { result ≤ 3 * length self.now.items }
+    {
+        self.start.max(self.len() / SLACK)
+    }
+
+    /// Makes room behind the bytes for so many more. Where there is less it takes memory: for what is used more than twice over, so that
     /// appending in pieces stays linear, or for just so many where no more can be had. After a refusal nothing has changed.
     /// Constant where there is room, else linear in the length.
     pub fn reserve(&mut self, n: usize) -> Result<(), AllocError>
@@ -99,8 +111,8 @@ impl ByteQueue {
         if self.spare() >= n {
             return Ok(());
         }
-        let twice = self.start.saturating_add(n.max(self.end));
-        if self.move_before(&[], twice).is_ok() {
+        let spare = self.slack().saturating_add(n.max(self.end));
+        if self.move_before(&[], spare).is_ok() {
             return Ok(());
         }
         self.move_before(&[], n)
@@ -135,7 +147,7 @@ impl ByteQueue {
             return Ok(());
         }
         let spare = self
-            .start
+            .slack()
             .saturating_add(self.end.saturating_sub(bytes.len()));
         if self.move_before(bytes, spare).is_ok() {
             return Ok(());
