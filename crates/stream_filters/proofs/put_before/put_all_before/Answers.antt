@@ -1,4 +1,4 @@
-use Rattle.std.proofs.Common.{◌≡◌, ◌+◌, ◌-◌, ◌++◌, ◌∙◌, sym, ap, subst, take, drop, length, length-drop, arith}
+use Rattle.std.proofs.Common.{◌+◌, ◌-◌, ◌++◌, ◌∙◌, sym, ap, subst, take, drop, length, length-drop, arith}
 use Rattle.std.proofs.lemmas.List.{take_all}
 use Rattle.stream_filters.specs.Parts.{StandBefore}
 use Rattle.stream_filters.proofs.BeforeLemmas.{put-next, before-next, others-next}
