@@ -6,11 +6,8 @@ ghost use Rattle.filter_model.specs.Filter.{crlf_after};
 ghost use Rattle.stream_filters.specs.Crlf.{is_bare_end, with_crs};
 
 use crate::crlf_table::SPREAD;
+use crate::line_end::{CR, LF};
 use std::simd::prelude::*;
-
-const CR: u8 = b'\r';
-
-const LF: u8 = b'\n';
 
 /// Bit k tells whether byte k is an LF and the byte before it no CR.
 #[inline(always)]

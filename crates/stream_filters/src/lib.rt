@@ -13,6 +13,7 @@ mod filters;
 mod hex_lanes;
 mod hex_parts;
 mod knowledge;
+mod line_end;
 mod parts;
 mod put;
 mod put_before;

@@ -10,13 +10,10 @@ ghost use Rattle.stream_filters.specs.Parts.{AppendsPart, HasRoom};
 use crate::crlf_put::put_crlf;
 use crate::hex_parts::{hex_in_part, hex_out_part};
 use crate::knowledge::Knowledge;
+use crate::line_end::{CR, LF};
 use crate::put::{put, put_byte};
 use crate::put_before::put_before;
 use ev_types::FilterKind;
-
-const CR: u8 = b'\r';
-
-const LF: u8 = b'\n';
 
 /// All bytes as they are, as far as the limit allows.
 fn none_part(src: &[u8], dst: &mut Vec<u8>, limit: usize) -> usize
