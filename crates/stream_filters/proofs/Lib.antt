@@ -8,6 +8,7 @@ pub mod InPlaceLemmas
 pub mod ShiftLemmas
 pub mod HouseSteps
 pub mod StreamShift
+pub mod TableRows
 pub mod CrlfTable
 pub mod CrlfLemmas
 pub mod CrlfRuns

@@ -1,6 +1,7 @@
 use Rattle.std.proofs.Common.{◌+◌, ◌++◌, ◌∙◌, ap, take, arith}
 use Rattle.std.specs.Int.RustNames.{count_ones}
-use Rattle.stream_filters.proofs.CrlfTable.{spreads, stored-front}
+use Rattle.stream_filters.proofs.TableRows.{stored-front}
+use Rattle.stream_filters.proofs.CrlfTable.{spreads}
 use Rattle.stream_filters.proofs.crlf_lanes.write_eight.Goals as goal
 
 pub swizzle-spread : goal.swizzle-spread
