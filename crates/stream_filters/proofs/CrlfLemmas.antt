@@ -83,10 +83,10 @@ spread-ends (suc n) l (x ∷ rest) =
     head false c e = refl
 
 -- a fact of each list of n things, from the same of n things written out
-abbrev listed : {A : Type 0} → (ℕ → A) → ℕ → List A
+abbrev pub listed : {A : Type 0} → (ℕ → A) → ℕ → List A
 listed f n = map f (range_with_len 0 n)
 
-spelled : {A : Type 0} (d : A) (P : List A → Type 0) (n : ℕ) → ((f : ℕ → A) → P (listed f n)) → (xs : List A) → length xs ≡ n → P xs
+pub spelled : {A : Type 0} (d : A) (P : List A → Type 0) (n : ℕ) → ((f : ℕ → A) → P (listed f n)) → (xs : List A) → length xs ≡ n → P xs
 spelled d P n h xs long =
     let f = λ (k : ℕ). get_or xs k d in
     let many = length-map-range_with_len f 0 n in
@@ -97,7 +97,7 @@ pub record Halves (ms : List Bool) : Type 0 where
   pub low : mask_l ms % 256 ≡ mask_l (take 8 ms)
   pub high : mask_l ms / 256 ≡ mask_l (drop 8 ms)
 
-halves : (ms : List Bool) → length ms ≡ 16 → Halves ms
+pub halves : (ms : List Bool) → length ms ≡ 16 → Halves ms
 halves ms long =
     let whole = spelled false (λ ms. mask_l ms ≡ mask_l (take 8 ms) + 256 * mask_l (drop 8 ms)) 16 (λ f. omega arith) ms long in
     let front = length-take-le 8 ms (omega (arith, long)) in

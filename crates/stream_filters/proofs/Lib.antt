@@ -12,6 +12,9 @@ pub mod TableRows
 pub mod CrlfTable
 pub mod CrlfLemmas
 pub mod CrlfRuns
+pub mod LfTable
+pub mod LfLemmas
+pub mod LfRuns
 pub mod PairLemmas
 pub mod BlockLemmas
 pub mod BytewiseLemmas

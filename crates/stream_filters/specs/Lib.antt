@@ -2,6 +2,7 @@ pub mod Knowledge
 pub mod StepAnswers
 pub mod Parts
 pub mod Crlf
+pub mod Lf
 pub mod StreamSteps
 pub mod House
 pub mod HouseLaws

@@ -10,6 +10,7 @@ ghost use Rattle.stream_filters.specs.Parts.{AppendsPart, HasRoom};
 use crate::crlf_put::put_crlf;
 use crate::hex_parts::{hex_in_part, hex_out_part};
 use crate::knowledge::Knowledge;
+use crate::lf_put::put_lf;
 use crate::line_end::{CR, LF};
 use crate::put::{put, put_byte};
 use crate::put_before::put_before;
@@ -75,7 +76,8 @@ fn put_behind_cr(byte: u8, dst: &mut Vec<u8>)
     }
 }
 
-/// The byte behind a CR that is held, or a CR, or the bytes before one.
+/// The byte behind a CR that is held; or sixteens of bytes and one behind them, where what they make is surely no more than the
+/// limit allows; else a CR, or the bytes before one.
 fn to_lf_part(known: &Knowledge, src: &[u8], dst: &mut Vec<u8>, limit: usize) -> usize
     requires some { 0 < length src.now }
     requires below { vec_len dst.old < limit }
@@ -86,6 +88,12 @@ fn to_lf_part(known: &Knowledge, src: &[u8], dst: &mut Vec<u8>, limit: usize) ->
     if known.last == Some(CR) {
         put_behind_cr(src[0], dst);
         return 1;
+    }
+    let most = src.len().min(limit - dst.len());
+    if most > 16 {
+        let used = (most - 1) / 16 * 16 + 1;
+        put_lf(src.split_at(used).0, dst);
+        return used;
     }
     if src[0] == CR {
         return 1;
