@@ -1,7 +1,7 @@
 -- What entries behind accepting leave: the counts of turns and links, and that no link waits; and what a write takes.
-use Rattle.std.proofs.Common.{◌≡◌, true, false, ◌||◌, if◌then◌else◌, [], ◌∷◌, ◌++◌, length, count_by, refl, ◌∙◌, ap, arith}
+use Rattle.std.proofs.Common.{◌≡◌, ◌<◌, Bool, true, false, not, ◌==◌, nat_lt, ◌||◌, if◌then◌else◌, [], ◌∷◌, ◌++◌, length, count_by, refl, ◌∙◌, ap, arith}
 use Rattle.std.specs.List.{list_all, list_any}
-use Rattle.std.proofs.lemmas.Bool.{and_parts}
+use Rattle.std.proofs.lemmas.Bool.{and_parts, eqb-true, eqb-false, lt-ltb}
 use Rattle.std.proofs.lemmas.List.{length-take}
 use Rattle.std.proofs.lemmas.List.Sums.{sum_by-append}
 use Rattle.ev_types.specs.declared.side.SideId.{SideId}
@@ -17,6 +17,7 @@ use Rattle.ev_port.specs.Ends.{WriteWithin}
 use Rattle.relay_state.specs.State.{State}
 use Rattle.relay_state.specs.Rooms.{waiting_for, write_room, offer}
 use Rattle.relay_core.specs.Answered.{TakesAtMost}
+use Rattle.relay_steps.proofs.WriteSteps.{offer-length}
 use Rattle.relay_drive.proofs.CalmLemmas.{Calm, calm_list, served_list, opened-append, in_turn-append}
 
 -- what is looked at of a trace, to know whether all was accepted
@@ -61,3 +62,16 @@ taken-offered s e (write.Took n) h =
 taken-offered s e write.NotYet h = tt
 taken-offered s e write.Failed h = tt
 taken-offered s e write.NoMemory h = tt
+
+-- something may be written where something is offered
+pub offered-some : (s : State) (e : SideId) (none : Bool) → length (offer s e) == 0 ≡ none → nat_lt 0 (write_room s e) ≡ not none
+offered-some s e true h =
+    let many = offer-length s e in
+    let zero = eqb-true (length (offer s e)) 0 h in
+    let none : write_room s e ≡ 0 = omega (arith, many, zero) in
+    ap (nat_lt 0) none
+offered-some s e false h =
+    let many = offer-length s e in
+    let some = eqb-false (length (offer s e)) 0 h in
+    let room : 0 < write_room s e = omega (arith, many, some) in
+    lt-ltb 0 (write_room s e) room

@@ -1,9 +1,10 @@
 // One call of the port for one side, with room made before for all that it may bring.
-ghost use Rattle.std.specs.Prelude.{◌≡◌, ◌<◌, ◌≤◌, false, length, vec_len};
-ghost use Rattle.relay_state.specs.Rooms.{read_room, offer};
+ghost use Rattle.std.specs.Prelude.{◌≡◌, ◌<◌, ◌≤◌, true, false, length, vec_len};
+ghost use Rattle.relay_state.specs.Rooms.{read_room};
 ghost use Rattle.relay_drive.specs.declared.fault.DriveFault.TheVariants.{Memory};
 ghost use Rattle.relay_drive.specs.Steps.{Nothing};
-ghost use Rattle.relay_drive.specs.Calls.{Checks, ReadsSome, Writes, is_memory};
+ghost use Rattle.relay_drive.specs.Calls.{Checks, ReadsSome, is_memory};
+ghost use Rattle.relay_drive.specs.Phases.{WritesSide};
 ghost use Rattle.ev_port.specs.Ends.{ReadWithin, got_bytes, WriteWithin, took_bytes};
 ghost use Rattle.relay_drive.specs.Moves.{Does, OnlyForMemory};
 
@@ -58,20 +59,22 @@ fn bytes_got(answer: ReadAnswer, into: &[u8]) -> &[u8]
     bytes
 }
 
-/// Gives the side's end what is offered to it now.
+/// Gives the side's end what is offered to it now, if that is something.
 pub(crate) fn ask_write<P: Port, S: Scribe>(
     run: &mut Run,
     side: SideId,
     port: &mut P,
     scribe: &mut S,
-) -> Result<WriteAnswer, DriveFault>
-    requires opened { side.link < run.old.relay.state.plain.opened }
-    requires some { 0 < length (offer run.old.relay.state side) }
-    ensures went { Does P.Port S.Scribe result (λ answer. Writes side answer) Nothing
+) -> Result<(), DriveFault>
+    requires { side.link < run.old.relay.state.plain.opened }
+    ensures went { Does P.Port S.Scribe result (λ _. WritesSide side true) Nothing
         (run.old, port.old, scribe.old) (run.new, port.new, scribe.new) }
     ensures cause { OnlyForMemory result }
 {
     let offer = run.relay.offer(side);
+    if offer.is_empty() {
+        return Ok(());
+    }
     let offered = offer.len();
     scribe.reserve(1, offered)?;
     let answer = port.write(side, offer);
@@ -85,7 +88,7 @@ pub(crate) fn ask_write<P: Port, S: Scribe>(
     };
     put(&mut run.entries, scribe, entry, bytes_taken(answer, offer));
     run.relay.write_answered(side, answer);
-    Ok(answer)
+    Ok(())
 }
 
 fn is_memory(answer: WriteAnswer) -> bool

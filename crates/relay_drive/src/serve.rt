@@ -57,11 +57,7 @@ fn write_side<P: Port, S: Scribe>(
     if !want.can_write {
         return Ok(());
     }
-    if run.relay.write_room(want.side) == 0 {
-        return Ok(());
-    }
-    ask_write(run, want.side, port, scribe)?;
-    Ok(())
+    ask_write(run, want.side, port, scribe)
 }
 
 /// Asks for the state of a connecting side, where it is marked for writing.
