@@ -1,8 +1,9 @@
 // What a hook that runs asks of the relay. Each is refused or done at once, and recorded.
-ghost use Rattle.std.specs.Prelude.{◌≡◌, ◌<◌};
+ghost use Rattle.std.specs.Prelude.{◌≡◌, ◌<◌, OnOk};
 ghost use Rattle.ev_types.specs.declared.act.Act.TheVariants as act;
 ghost use Rattle.relay_model.specs.Asks.{most_asks};
 ghost use Rattle.relay_core.specs.Fires.{AsksOnce, FreeRecorded, answer_of};
+ghost use Rattle.relay_core.specs.RelayValue.{IsLeftWhereDone};
 
 use crate::ctl::Ctl;
 use crate::fault::AskFault;
@@ -246,7 +247,8 @@ impl Ctl {
         Ok(())
     }
 
-    /// One reference less of a side, also of a freed one that has one. Constant; takes no memory.
+    /// One reference less of a side, also of a freed one that has one. Of a link that is over then only what its report needs is kept.
+    /// Constant; takes no memory.
     ///
     /// Refused as TooManyAsks, then NotLive for a side that was never opened or is freed and has none, then BadValue for a live side that
     /// has none.
@@ -254,12 +256,13 @@ impl Ctl {
     /// Libevent: event2/bufferevent.h, `bufferevent_decref`; "Bufferevents: advanced topics".
     /// Differs: the last reference frees nothing.
     pub fn decref(&mut self, side: SideId) -> Result<(), AskFault>
-        ensures { AsksOnce self.old (act.Decref side) (answer_of result) self.new }
+        ensures asked { AsksOnce self.old (act.Decref side) (answer_of result) self.new }
+        ensures left { OnOk result (IsLeftWhereDone self.new side.link) }
     {
         self.may_ask(Act::Decref(side))?;
         self.sides.decref(side);
-        self.sides.leave(side.link);
         self.record(Act::Decref(side), AskAnswer::Ok);
+        self.sides.leave(side.link);
         Ok(())
     }
 

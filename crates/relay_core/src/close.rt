@@ -121,7 +121,7 @@ impl Relay {
         self.is_running_side(near) & self.is_running_side(near.peer())
     }
 
-    /// Makes the change of a step of closing. Of a link that is over behind its last step only what its report needs is kept. Takes no
+    /// Makes the change of a step of closing. Of a link that is over after it only what its report needs is kept. Takes no
     /// memory; constant.
     pub fn close(&mut self, step: Closing)
         requires { link_of_step step < self.old.state.plain.opened }
