@@ -86,12 +86,10 @@ impl Ctl {
         requires { side.link < self.now.state.plain.opened }
         ensures { result ≡ ((side_at self.now.state.plain side).live && is_some (allowance self.now.state side dir)) }
     {
-        !self.untimed
-            && self.sides.is_live(side)
-            && self.sides.allowance(side, dir, self.time).is_some()
+        self.sides.is_live(side) && self.sides.allowance(side, dir, self.time).is_some()
     }
 
-    /// The side moves so many bytes in a direction, no more than limit and group leave it.
+    /// The side moves so many bytes in a direction, no more than limit and group leave it. Where there is neither, nothing changes.
     pub(crate) fn spend(&mut self, side: SideId, dir: Dir, count: usize)
         requires opened { side.link < self.old.state.plain.opened }
         requires own { IsAllowed count (allowance self.old.state side dir) }
@@ -102,6 +100,9 @@ impl Ctl {
         ensures fire { SameFire self.old self.new }
         ensures reads { self.new.spare_reads ≡ self.old.spare_reads }
     {
+        if self.untimed {
+            return;
+        }
         let limited = self.is_limited(side, dir);
         watch_where(&mut self.resting, side.link, limited);
         self.sides.spend(side, dir, count as u64, self.time);
