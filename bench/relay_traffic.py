@@ -13,7 +13,8 @@ Stages, each over a relay of its own:
   halves    1 MiB each way, the second one sent only once the first one and its end came, in both orders
   starved   with few descriptors it ends at once and says so, or it serves
   idle      links that moved 64 KiB each way and are idle hold at most 2,400 bytes each, and cost no processor
-  stopped   a reader that stops for seconds: memory stays within thrice the hold mark, the processor is idle, then all arrives
+  stopped   a reader that stops for seconds: memory stays within 3.5 times the hold mark, the processor is idle, then all arrives
+  slow      a reader that stops again and again: the memory in which bytes wait is used again, and not taken anew from the system
   vanished  clients that vanish while bytes come for them
   short     links beyond the descriptors: each one in the end
   hex       what one relay turns into hex, a second one behind it turns back, whatever the pieces
@@ -90,6 +91,11 @@ class Relay:
         with open(f'/proc/{self.process.pid}/stat') as stat:
             fields = stat.read().rpartition(')')[2].split()
         return (int(fields[11]) + int(fields[12])) / os.sysconf('SC_CLK_TCK')
+
+    def pages(self):
+        """How many pages it got from the system."""
+        with open(f'/proc/{self.process.pid}/stat') as stat:
+            return int(stat.read().rpartition(')')[2].split()[7])
 
     def report(self):
         """The lines of the report, once the relay ended by itself."""
@@ -432,7 +438,7 @@ async def stopped(program, rng, size, seconds, words):
     await asyncio.sleep(seconds)
     used = relay.seconds() - used
     grown = relay.resident() - before
-    if grown > 1.5 * MIB: # the hold mark thrice: a block that grew by doubling, and the one that it came from
+    if grown > 1.75 * MIB: # a block that grew to 2.25 times what was used, and the one that it came from
         fail(f'a reader that stopped costs {grown / MIB:.1f} MiB')
     if used > .05 * seconds:
         fail(f'a reader that stopped costs {used:.2f} s in {seconds} s')
@@ -445,6 +451,28 @@ async def stopped(program, rng, size, seconds, words):
     writer.close()
     await asyncio.to_thread(relay.report)
     return f'{grown / MIB:.2f} MiB, {used:.2f} s of {seconds} s'
+
+
+async def slow(program, rng, times):
+    server = socket.create_server(('127.0.0.1', 0))
+    relay = Relay(program, server.getsockname()[1], 1)
+    data = rng.randbytes(4 * MIB) * times
+    reader, writer = await asyncio.open_connection('127.0.0.1', relay.port)
+    peer, _ = await asyncio.to_thread(server.accept)
+    sending = asyncio.create_task(send(writer, data, rng))
+    far_reader, far_writer = await asyncio.open_connection(sock=peer)
+    for _ in range(times):
+        await asyncio.sleep(.05)
+        if await far_reader.readexactly(4 * MIB) != data[:4 * MIB]:
+            fail('behind a pause other bytes come')
+    await sending
+    pages = relay.pages()
+    if pages > 300 * times:
+        fail(f'{times} pauses of a reader cost {pages} pages')
+    far_writer.close()
+    writer.close()
+    await asyncio.to_thread(relay.report)
+    return f'{pages} pages for {times} pauses'
 
 
 async def vanished(program, rng, links):
@@ -530,6 +558,7 @@ async def main():
         ('starved', starved(program)),
         ('idle', idle(program, rng, 450, 65536, 1)),
         ('stopped', stopped(program, rng, (8 if quick else 64) * MIB, 1 if quick else 5, ())),
+        ('slow', slow(program, rng, 30 if quick else 200)),
         ('vanished', vanished(program, rng, 5 if quick else 40)),
         ('short', short(program, rng, 20 if quick else 60, 24 if quick else 60, 20_000)),
         ('hex', hex_and_back(program, rng, (MIB if quick else 32 * MIB))),

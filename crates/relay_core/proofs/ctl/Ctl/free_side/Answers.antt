@@ -18,16 +18,16 @@ invariant_of-self c =
     record {
       timed = still_sound r.settings r.time r.untimed k c.free.new.self.links e (λ x. record x { live = false; group = None }) h.timed
           (λ p. p)
-          (ap (λ (z : Links). z.sides) c.free.ensures) (ap (λ (z : Links). z.gauges) c.free.ensures);
+          (ap (λ (z : Links). z.sides) c.free.ensures.links) (ap (λ (z : Links). z.gauges) c.free.ensures.links);
       grouped = left_sound r.given r.untimed r.groups.value c.leave.new.groups.value (number e) h.grouped c.leave.ensures;
       watching = watching-more r.resting r.time k h.watching c.watch.new.self c.free.new.self.links
           e (record (links.side_at k e) { live = false; group = None }) (links.gauge_at k e) c.watch.ensures.more c.watch.ensures.there
-          (ap (λ (z : Links). z.sides) c.free.ensures)
-          (ap (λ (z : Links). z.gauges) c.free.ensures ∙ sym (set-get_or k.gauges (number e) no_gauge))
-          (ap (λ (z : Links). z.opened) c.free.ensures);
+          (ap (λ (z : Links). z.sides) c.free.ensures.links)
+          (ap (λ (z : Links). z.gauges) c.free.ensures.links ∙ sym (set-get_or k.gauges (number e) no_gauge))
+          (ap (λ (z : Links). z.opened) c.free.ensures.links);
       grouping = grouping-left r.grouped c.free.new.self.links.opened (number e) r.groups.value.members c.leave.new.groups.value.members
           (ap (λ (z : GroupsValue). z.members) c.leave.ensures)
-          (grouping-at r.grouped k.opened c.free.new.self.links.opened r.groups.value.members (ap (λ (z : Links). z.opened) c.free.ensures)
+          (grouping-at r.grouped k.opened c.free.new.self.links.opened r.groups.value.members (ap (λ (z : Links). z.opened) c.free.ensures.links)
           h.grouping);
       time = h.time;
       few = h.few;

@@ -8,5 +8,5 @@ pub invariant_of-self : goal.invariant_of-self
 invariant_of-self c =
     changed_sound c.self.inside c.incref.new.self c.args.side
     (λ (x : PlainSide). record x { references = x.references + 1 }) c.self.invariant
-    c.incref.ensures
+    c.incref.ensures.links
     (λ x. record { alike = record { live = refl; timeouts = refl; expired = refl; limit = refl }; read = refl; write = refl })

@@ -19,17 +19,17 @@ invariant_of-self-2 c =
     let is : c.change.new.self.value ≡ joined c.args.group (number e) r.groups.value = search rules in
     record {
       timed = still_sound r.settings r.time r.untimed k c.set_group.new.self.links e (λ x. record x { group = Some c.args.group }) h.timed
-          (λ p. p) (ap (λ (z : Links). z.sides) c.set_group.ensures) (ap (λ (z : Links). z.gauges) c.set_group.ensures);
+          (λ p. p) (ap (λ (z : Links). z.sides) c.set_group.ensures.links) (ap (λ (z : Links). z.gauges) c.set_group.ensures.links);
       grouped = search rules;
       watching = watching-more r.resting r.time k h.watching c.watch.new.self c.set_group.new.self.links
           e y (links.gauge_at k e) c.watch.ensures.more c.watch.ensures.there
-          (ap (λ (z : Links). z.sides) c.set_group.ensures)
-          (ap (λ (z : Links). z.gauges) c.set_group.ensures ∙ sym (set-get_or k.gauges (number e) no_gauge))
-          (ap (λ (z : Links). z.opened) c.set_group.ensures);
+          (ap (λ (z : Links). z.sides) c.set_group.ensures.links)
+          (ap (λ (z : Links). z.gauges) c.set_group.ensures.links ∙ sym (set-get_or k.gauges (number e) no_gauge))
+          (ap (λ (z : Links). z.opened) c.set_group.ensures.links);
       grouping = grouping-joined r.grouped c.insert.new.self c.set_group.new.self.links.opened e c.args.group r.groups.value
           c.change.new.self.value is c.insert.ensures.members c.insert.ensures.len
           (grouping-at r.grouped k.opened c.set_group.new.self.links.opened r.groups.value.members
-          (ap (λ (z : Links). z.opened) c.set_group.ensures) h.grouping);
+          (ap (λ (z : Links). z.opened) c.set_group.ensures.links) h.grouping);
       time = h.time;
       few = h.few;
       room = h.room;

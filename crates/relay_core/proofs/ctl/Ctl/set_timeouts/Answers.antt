@@ -28,15 +28,15 @@ invariant_of-self c =
                 let none = down t in
                 ((λ i. record { read_ms = none.1 i; write_ms = none.2 i }), (p.2 t).1, (p.2 t).2),
           ))
-          (ap (λ (z : Links). z.sides) c.set_timeouts.ensures) (ap (λ (z : Links). z.gauges) c.set_timeouts.ensures);
+          (ap (λ (z : Links). z.sides) c.set_timeouts.ensures.links) (ap (λ (z : Links). z.gauges) c.set_timeouts.ensures.links);
       grouped = search rules;
       watching = watching-more r.resting r.time k h.watching c.watch.new.self c.set_timeouts.new.self.links
           e _ (links.gauge_at k e) c.watch.ensures.more c.watch.ensures.there
-          (ap (λ (z : Links). z.sides) c.set_timeouts.ensures)
-          (ap (λ (z : Links). z.gauges) c.set_timeouts.ensures ∙ sym (set-get_or k.gauges (number e) no_gauge))
-          (ap (λ (z : Links). z.opened) c.set_timeouts.ensures);
+          (ap (λ (z : Links). z.sides) c.set_timeouts.ensures.links)
+          (ap (λ (z : Links). z.gauges) c.set_timeouts.ensures.links ∙ sym (set-get_or k.gauges (number e) no_gauge))
+          (ap (λ (z : Links). z.opened) c.set_timeouts.ensures.links);
       grouping = grouping-at r.grouped r.sides.links.opened c.set_timeouts.new.self.links.opened r.groups.value.members
-          (ap (λ (z : Links). z.opened) c.set_timeouts.ensures) h.grouping;
+          (ap (λ (z : Links). z.opened) c.set_timeouts.ensures.links) h.grouping;
       time = h.time;
       few = h.few;
       room = h.room;

@@ -8,5 +8,5 @@ pub invariant_of-self : goal.invariant_of-self
 invariant_of-self c =
     changed_sound c.self.inside c.set_watermark.new.self c.args.side
     (λ (x : PlainSide). record x { marks = marked c.args.dir c.args.low c.args.high x.marks }) c.self.invariant
-    c.set_watermark.ensures
+    c.set_watermark.ensures.links
     (λ x. record { alike = record { live = refl; timeouts = refl; expired = refl; limit = refl }; read = refl; write = refl })

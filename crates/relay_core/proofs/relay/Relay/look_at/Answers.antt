@@ -22,12 +22,12 @@ invariant_of-self-inside c =
     record {
       timed = still_sound r.settings r.time r.untimed k c.be_active.new.self.links e (active_at r.time c.args.dir) h.timed
           (active_sound r.time r.untimed c.args.dir (links.side_at k e))
-          (ap (λ (z : Links). z.sides) c.be_active.ensures) (ap (λ (z : Links). z.gauges) c.be_active.ensures);
+          (ap (λ (z : Links). z.sides) c.be_active.ensures.links) (ap (λ (z : Links). z.gauges) c.be_active.ensures.links);
       grouped = h.grouped;
       watching = watching-changed r.resting r.time k h.watching c.be_active.new.self.links e
-          (active_at r.time c.args.dir) c.be_active.ensures (alike-active r.time c.args.dir);
+          (active_at r.time c.args.dir) c.be_active.ensures.links (alike-active r.time c.args.dir);
       grouping = grouping-at r.grouped r.sides.links.opened c.be_active.new.self.links.opened r.groups.value.members
-          (ap (λ (z : Links). z.opened) c.be_active.ensures) h.grouping;
+          (ap (λ (z : Links). z.opened) c.be_active.ensures.links) h.grouping;
       time = h.time;
       few = h.few;
       room = h.room;
@@ -45,15 +45,15 @@ invariant_of-self-inside-then-has_run_out c =
       timed = still_sound r.settings r.time r.untimed k c.expire.new.self.links e (expire c.args.dir) h.timed
           (expire_sound r.time r.untimed c.args.dir (links.side_at k e)
           (ap (λ (z : RelayValue). is_timed (side_at z.state.plain e) c.args.dir) is ∙ sym c.is_timed.ensures ∙ c.if-not-is_timed.false))
-          (ap (λ (z : Links). z.sides) c.expire.ensures) (ap (λ (z : Links). z.gauges) c.expire.ensures);
+          (ap (λ (z : Links). z.sides) c.expire.ensures.links) (ap (λ (z : Links). z.gauges) c.expire.ensures.links);
       grouped = h.grouped;
       watching = watching-more r.resting r.time k h.watching c.watch.new.self c.expire.new.self.links
           e (expire c.args.dir (links.side_at k e)) (links.gauge_at k e) c.watch.ensures.more c.watch.ensures.there
-          (ap (λ (z : Links). z.sides) c.expire.ensures)
-          (ap (λ (z : Links). z.gauges) c.expire.ensures ∙ sym (set-get_or k.gauges (number e) no_gauge))
-          (ap (λ (z : Links). z.opened) c.expire.ensures);
+          (ap (λ (z : Links). z.sides) c.expire.ensures.links)
+          (ap (λ (z : Links). z.gauges) c.expire.ensures.links ∙ sym (set-get_or k.gauges (number e) no_gauge))
+          (ap (λ (z : Links). z.opened) c.expire.ensures.links);
       grouping = grouping-at r.grouped r.sides.links.opened c.expire.new.self.links.opened r.groups.value.members
-          (ap (λ (z : Links). z.opened) c.expire.ensures) h.grouping;
+          (ap (λ (z : Links). z.opened) c.expire.ensures.links) h.grouping;
       time = h.time;
       few = h.few;
       room = h.room;

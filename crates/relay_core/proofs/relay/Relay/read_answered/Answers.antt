@@ -35,14 +35,14 @@ pub invariant_of-self-inside-in-Ended : goal.invariant_of-self-inside-in-Ended
 invariant_of-self-inside-in-Ended c =
     changed_sound c.self-inside-in-Ended.inside.0.0 c.ended.new.self c.args.side
     (λ (x : PlainSide). record x { ended = true; reads = false })
-    c.self-inside-in-Ended.invariant c.ended.ensures
+    c.self-inside-in-Ended.invariant c.ended.ensures.links
     (λ x. record { alike = record { live = refl; timeouts = refl; expired = refl; limit = refl }; read = refl; write = refl })
 
 pub invariant_of-self-inside-in-Failed : goal.invariant_of-self-inside-in-Failed
 invariant_of-self-inside-in-Failed c =
     changed_sound c.self-inside-in-Failed.inside.0.0 c.read_failed.new.self c.args.side
     (λ (x : PlainSide). record x { failed = true; reads = false })
-    c.self-inside-in-Failed.invariant c.read_failed.ensures
+    c.self-inside-in-Failed.invariant c.read_failed.ensures.links
     (λ x. record { alike = record { live = refl; timeouts = refl; expired = refl; limit = refl }; read = refl; write = refl })
 
 pub returns-in-Got-clause-state : goal.returns-in-Got-clause-state

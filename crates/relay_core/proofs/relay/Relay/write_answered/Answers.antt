@@ -34,11 +34,11 @@ invariant_of-self-inside c =
     record {
       timed = still_sound r.settings r.time r.untimed k c.took.new.self.links e (active_at r.time dir.Write) h.timed
           (active_sound r.time r.untimed dir.Write (links.side_at k e))
-          (ap (λ (z : Links). z.sides) c.took.ensures) (ap (λ (z : Links). z.gauges) c.took.ensures);
+          (ap (λ (z : Links). z.sides) c.took.ensures.links) (ap (λ (z : Links). z.gauges) c.took.ensures.links);
       grouped = h.grouped;
-      watching = watching-took r.resting r.time k c.took.new.self.links e _ h.watching c.took.ensures;
+      watching = watching-took r.resting r.time k c.took.new.self.links e _ h.watching c.took.ensures.links;
       grouping = grouping-at r.grouped r.sides.links.opened c.took.new.self.links.opened r.groups.value.members
-          (ap (λ (z : Links). z.opened) c.took.ensures) h.grouping;
+          (ap (λ (z : Links). z.opened) c.took.ensures.links) h.grouping;
       time = h.time;
       few = h.few;
       room = h.room;
@@ -49,5 +49,5 @@ pub invariant_of-self-inside-in-Failed : goal.invariant_of-self-inside-in-Failed
 invariant_of-self-inside-in-Failed c =
     changed_sound c.self-inside-in-Failed.inside.0.0 c.write_failed.new.self c.args.side
     (λ (x : PlainSide). record x { failed = true; writes = false })
-    c.self-inside-in-Failed.invariant c.write_failed.ensures
+    c.self-inside-in-Failed.invariant c.write_failed.ensures.links
     (λ x. record { alike = record { live = refl; timeouts = refl; expired = refl; limit = refl }; read = refl; write = refl })
