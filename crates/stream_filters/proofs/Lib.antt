@@ -1,6 +1,5 @@
 pub mod LastLemmas
 pub mod PlainLemmas
-pub mod BeforeLemmas
 pub mod PartLemmas
 pub mod AlongLemmas
 pub mod GoOnLemmas

@@ -34,8 +34,8 @@ invariant_of-ctl c = record {
         let t = c.is_untimed-untimed.ensures.timeouts e in
         let q = c.is_untimed-untimed.ensures.rates e in
         record { in_timeouts = t.0; out_timeouts = t.1; in_rate = q.0; out_rate = q.1 };
-    sides = subst (λ (k : Links). All (IsSoundSide 0 c.is_untimed-untimed.result) k.sides) (sym c.new.ensures) (All-nil _);
-    gauges = subst (λ (k : Links). All (λ (x : Gauge). x.time ≤ 0) k.gauges) (sym c.new.ensures) (All-nil _);
+    sides = subst (λ (k : Links). All (IsSoundSide 0 c.is_untimed-untimed.result) k.sides) (sym c.new.ensures.links) (All-nil _);
+    gauges = subst (λ (k : Links). All (λ (x : Gauge). x.time ≤ 0) k.gauges) (sym c.new.ensures.links) (All-nil _);
   };
   grouped = record {
     many = ap (λ (z : GroupsValue). length z.groups) c.in_ok-groups.ensures ∙ made-many c.args.given.groups.items;
@@ -48,14 +48,14 @@ invariant_of-ctl c = record {
         (made-shares c.args.given.groups.items c.requires.shares);
   };
   watching = record {
-    covers = (let none = ap (λ (k : Links). k.opened) c.new.ensures in omega (arith, none));
-    places = (let none = ap (λ (k : Links). k.opened) c.new.ensures in omega (arith, none));
+    covers = (let none = ap (λ (k : Links). k.opened) c.new.ensures.links in omega (arith, none));
+    places = (let none = ap (λ (k : Links). k.opened) c.new.ensures.links in omega (arith, none));
     absent = λ i past. ap (λ xs. moment_for xs i) c.new-5.ensures.moments;
-    beside = λ e below out. absurd (let none = ap (λ (k : Links). k.opened) c.new.ensures in omega (arith, none, below));
+    beside = λ e below out. absurd (let none = ap (λ (k : Links). k.opened) c.new.ensures.links in omega (arith, none, below));
   };
   grouping = record {
-    covers = (let none = ap (λ (k : Links). k.opened) c.new.ensures in omega (arith, none));
-    beside = λ e below out. absurd (let none = ap (λ (k : Links). k.opened) c.new.ensures in omega (arith, none, below));
+    covers = (let none = ap (λ (k : Links). k.opened) c.new.ensures.links in omega (arith, none));
+    beside = λ e below out. absurd (let none = ap (λ (k : Links). k.opened) c.new.ensures.links in omega (arith, none, below));
   };
   time = omega arith;
   few = omega arith;
