@@ -1,5 +1,5 @@
 -- The links of a pool, each as it stands in a bay or is remembered.
-use Rattle.std.proofs.Common.{◌≡◌, ◌≢◌, ℕ, ◌+◌, ◌*◌, ◌/◌, ◌%◌, ◌<◌, ◌≤◌, ◌^◌, Bool, true, false, ◌==◌, ◌||◌, List, length}
+use Rattle.std.proofs.Common.{◌≡◌, ◌≢◌, ℕ, ◌+◌, ◌*◌, ◌/◌, ◌%◌, ◌<◌, ◌≤◌, ◌^◌, Bool, true, false, ◌==◌, ◌||◌, List, length, map}
 use Rattle.std.proofs.Common.{slice_index_or, slice_set, refl, sym}
 use Rattle.std.proofs.Common.{◌∙◌, ap, arith, eqb-true, subst, nat_lt}
 use Rattle.std.specs.Prelude.{Option, Some, None, slice_get}
@@ -22,14 +22,15 @@ use Rattle.relay_sides.proofs.BevsLemmas.{number-lt}
 use Rattle.relay_sides.proofs.TableLemmas.{length-tabulate, get-tabulate}
 use Rattle.relay_pool.specs.Over.{one_side}
 use Rattle.relay_pool.specs.PoolValue.{PoolValue, has_live_side}
-use Rattle.relay_pool.specs.PoolView.{part_at, links_seen, pool_of, ArePooled}
-use Rattle.relay_pool.specs.Stays.{links_with, link_in, stay_at, at_stay, IsBay, IsOutOfBay, IsRemnant, IsStay, IsLeftBy, Remembers}
+use Rattle.relay_pool.specs.PoolView.{part_at, links_seen, pool_of, AreGivenBack, ArePooled}
+use Rattle.relay_pool.specs.Stays.{links_with, link_in, stay_at, at_stay, is_in_bay, IsBay, IsOutOfBay, IsRemnant, IsStay, IsLeftBy, Remembers}
 use Rattle.relay_pool.specs.declared.pool.LinkPool.TheInside.{Inside}
 use Rattle.relay_pool.specs.declared.stay.Over.{Over}
 use Rattle.relay_pool.specs.declared.stay.Stay.{Stay}
 use Rattle.relay_pool.specs.declared.stay.Stay.TheVariants as stay
 use Rattle.relay_pool.proofs.TouchLemmas.{Touches, AlikeBeside, touches_none}
 use Rattle.relay_pool.proofs.LiftLemmas.{Image, side_of, same_links}
+use Rattle.relay_pool.proofs.OwnerLemmas.{kept_still}
 
 -- two sides and two directions for each link
 pub pairs_of : (stays : List Stay) (k : Links) → HasPairs (links_seen stays k)
@@ -268,13 +269,22 @@ module _ (r : Inside) (inv : ArePooled r) where
             subst (λ x. IsStay r.owners.items n x) (sym (other_stay link b new left.rest n (eqb-false n link e)))
             (inv.stays n (omega (arith, w, len)))
 
+    -- and is not kept still
+    pub kept_left : map is_in_bay new ≡ map is_in_bay r.links.items
+    kept_left = kept_still r.links.items new link b left.rest (go (stay_at stays0 link) (stay_at new link) over left.there)
+      where
+        go : (x y : Stay) → IsOutOfBay x → Remembers change x y → is_in_bay y ≡ is_in_bay x
+        go (stay.Over o) (stay.Over z) h q = refl
+        go (stay.Over o) (stay.Bay u) h q = absurd q
+        go (stay.Bay u) y h q = absurd h
+
     pub pooled_left : (v : Vec Stay) → v.items ≡ new → ArePooled (record r { links = v })
     pooled_left v is = record {
       pairs = inv.pairs;
       bays = inv.bays;
       few = let f = inv.few in subst (λ xs. length xs < 2 ^ 32) (sym is) (omega (arith, f, len));
       stays = subst (λ xs. (n : ℕ) → n < length xs → IsStay r.owners.items n (stay_at xs n)) (sym is) stay_left;
-      ready = inv.ready;
+      free = subst (λ ks. AreGivenBack r.free r.owners.items ks) (sym (ap (map is_in_bay) is ∙ kept_left)) inv.free;
     }
 
     -- and it is the image of what is remembered of it

@@ -2,6 +2,7 @@ pub mod Walks
 pub mod TouchLemmas
 pub mod LeftLemmas
 pub mod LiftLemmas
+pub mod OwnerLemmas
 pub mod BayLemmas
 pub mod ReadLemmas
 pub mod CallLemmas

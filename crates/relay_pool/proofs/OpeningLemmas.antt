@@ -1,14 +1,15 @@
 -- A link more, in a bay of its own, and one that leaves its bay.
-use Rattle.std.proofs.Common.{◌≡◌, ◌≢◌, ℕ, suc, ◌+◌, ◌*◌, ◌/◌, ◌%◌, ◌^◌, ◌<◌, ◌≤◌, Bool, true, false, ◌==◌, List, [], ◌∷◌, ◌++◌, length}
+use Rattle.std.proofs.Common.{◌≡◌, ◌≢◌, ℕ, suc, ◌+◌, ◌*◌, ◌/◌, ◌%◌, ◌^◌, ◌<◌, ◌≤◌, Bool, true, false, ◌==◌, List, [], ◌∷◌, ◌++◌, length, map}
 use Rattle.std.proofs.Common.{slice_index_or, slice_set, refl, sym, ◌∙◌, ap, arith, eqb-true, subst, nat_lt, length-append}
 use Rattle.std.specs.Global.{Vec}
 use Rattle.std.specs.Prelude.{Result, Ok}
 use Rattle.std.specs.Result.{is_ok}
 use Rattle.std.specs.Vec.{with_item}
-use Rattle.std.specs.Prelude.{Option, Some, None, IfSome, slice_get, vec_len, vec_capacity, ◌&&◌, if◌then◌else◌}
+use Rattle.std.specs.Prelude.{Option, Some, None, slice_get, vec_len, vec_capacity, ◌&&◌, if◌then◌else◌}
 use Rattle.std.proofs.lemmas.Bool.{eqb-false, ltb-true, ltb-false}
 use Rattle.std.proofs.lemmas.List.{get_or_past, get_or-set_same, get_or-set_other, get_or-append-add, get_or_append_left, length-set}
-use Rattle.std.proofs.lemmas.Option.{slice_get_within, slice_get-get_or, get_or_from_slice_get}
+use Rattle.std.proofs.lemmas.List.{get_or-map, length-map, map-set, map_push}
+use Rattle.std.proofs.lemmas.Option.{slice_get_within}
 use Rattle.std.proofs.Math.Seq.{get_or-append_seam}
 use Rattle.ev_types.specs.declared.side.Side.{Side}
 use Rattle.ev_types.specs.declared.side.Side.TheVariants.{In, Out}
@@ -28,8 +29,8 @@ use Rattle.relay_sides.specs.declared.opening.NewSide.{NewSide}
 use Rattle.relay_sides.proofs.BevsLemmas.{number-lt}
 use Rattle.relay_sides.proofs.TableLemmas.{tabulate-more}
 use Rattle.relay_pool.specs.Over.{link_alone}
-use Rattle.relay_pool.specs.PoolView.{part_at, links_seen, room_for, links_spare, ArePooled}
-use Rattle.relay_pool.specs.Stays.{links_with, link_in, stay_at, IsBay, IsRemnant, IsStay}
+use Rattle.relay_pool.specs.PoolView.{part_at, links_seen, bays_of, room_for, links_spare, AreGivenBack, ArePooled}
+use Rattle.relay_pool.specs.Stays.{links_with, link_in, stay_at, is_in_bay, IsBay, IsRemnant, IsStay}
 use Rattle.relay_pool.specs.declared.pool.LinkPool.TheInside.{Inside}
 use Rattle.relay_pool.specs.declared.stay.Over.{Over}
 use Rattle.relay_pool.specs.declared.stay.Stay.{Stay}
@@ -37,6 +38,7 @@ use Rattle.relay_pool.specs.declared.stay.Stay.TheVariants as stay
 use Rattle.relay_pool.proofs.TouchLemmas.{Touches, AlikeBeside, touches_side, touches_flow, touches_lane, touches_gauge, touches_then}
 use Rattle.relay_pool.proofs.TouchLemmas.{touches_none}
 use Rattle.relay_pool.proofs.LiftLemmas.{Image, side_of, same_links}
+use Rattle.relay_pool.proofs.OwnerLemmas.{unowned, other_set, back_room, back_left}
 use Rattle.relay_pool.proofs.BayLemmas.{part_away, image_of, image_bay, touches_set, one_owner}
 
 -- what is alike of two lists of links but at a bay
@@ -273,52 +275,12 @@ module _ (time turn : ℕ) (near far : NewSide) (k : Links) (pairs : HasPairs k)
 
 -- What is so of a pool with a link more
 
-get_kept : {A : Type 0} (xs ys : List A) (i : ℕ) (x d : A) → slice_index_or ys i d ≡ slice_index_or xs i d → i < length ys →
-    slice_get xs i ≡ Some x → slice_get ys i ≡ Some x
-get_kept xs ys i x d p h q = slice_get-get_or ys i d h ∙ ap Some (p ∙ get_or_from_slice_get xs i x d q)
-
-abbrev has-owner : Option (Option ℕ) → Bool
-has-owner (Some (Some n)) = true
-has-owner _ = false
-
-pub unowned : (owners : List (Option ℕ)) (u bay n : ℕ) → slice_get owners u ≡ Some (Some n) → slice_get owners bay ≡ Some None → u ≢ bay
-unowned owners u bay n p q e =
-    absurd (let wrong : true ≡ false = ap has-owner (sym p ∙ ap (slice_get owners) e ∙ q) in cc)
-
-pub owned_set : (owners : List (Option ℕ)) (bay link : ℕ) → slice_get owners bay ≡ Some None → (u n : ℕ) →
-    slice_get owners u ≡ Some (Some n) → slice_get (slice_set owners bay (Some link)) u ≡ Some (Some n)
-owned_set owners bay link free u n p =
-    let w = slice_get_within owners u (Some n) p in
-    let l = length-set owners bay (Some link) in
-    get_kept owners (slice_set owners bay (Some link)) u (Some n) None
-    (get_or-set_other owners bay u (Some link) None (unowned owners u bay n p free)) (omega (arith, w, l)) p
-
-pub own_set : (owners : List (Option ℕ)) (bay link : ℕ) → slice_get owners bay ≡ Some None →
-    slice_get (slice_set owners bay (Some link)) bay ≡ Some (Some link)
-own_set owners bay link free =
-    let w = slice_get_within owners bay None free in
-    let l = length-set owners bay (Some link) in
-    slice_get-get_or (slice_set owners bay (Some link)) bay None (omega (arith, w, l))
-    ∙ ap Some (get_or-set_same owners bay (Some link) None w)
-
-pub owned_more : (owners : List (Option ℕ)) (x : Option ℕ) (u : ℕ) (y : Option ℕ) → slice_get owners u ≡ Some y →
-    slice_get (owners ++ x ∷ []) u ≡ Some y
-owned_more owners x u y p =
-    let w = slice_get_within owners u y p in
-    let l = length-append owners (x ∷ []) in
-    get_kept owners (owners ++ x ∷ []) u y None (get_or_append_left owners (x ∷ []) None u w) (omega (arith, w, l)) p
-
-pub own_more : (owners : List (Option ℕ)) (x : Option ℕ) → slice_get (owners ++ x ∷ []) (length owners) ≡ Some x
-own_more owners x =
-    let l = length-append owners (x ∷ []) in
-    slice_get-get_or (owners ++ x ∷ []) (length owners) None (omega (arith, l)) ∙ ap Some (get_or-append_seam owners x [] None)
-
-module _ (r : Inside) (inv : ArePooled r) (v : SidesValue) (vec : Vec Stay) (own : Vec (Option ℕ)) (free : Vec ℕ) (ready : Option ℕ)
+module _ (r : Inside) (inv : ArePooled r) (v : SidesValue) (vec : Vec Stay) (own : Vec (Option ℕ)) (free : Vec ℕ)
     (bay : ℕ) (pairs : HasPairs v.links) (bays : length own.items ≡ v.links.opened) (few : length r.links.items + 1 < 2 ^ 32)
     (items : vec.items ≡ r.links.items ++ stay.Bay bay ∷ [])
     (kept : (u n : ℕ) → slice_get r.owners.items u ≡ Some (Some n) → slice_get own.items u ≡ Some (Some n))
     (new_one : slice_get own.items bay ≡ Some (Some (length r.links.items)))
-    (next : IfSome ready (λ b. slice_get own.items b ≡ Some None)) where
+    (back : AreGivenBack free own.items (map is_in_bay r.links.items ++ true ∷ [])) where
   abbrev longer_stays : List Stay
   longer_stays = r.links.items ++ stay.Bay bay ∷ []
 
@@ -343,7 +305,7 @@ module _ (r : Inside) (inv : ArePooled r) (v : SidesValue) (vec : Vec Stay) (own
           (subst (λ x. IsStay own.items (length r.links.items) x) (sym (get_or-append_seam r.links.items (stay.Bay bay) [] (stay.Bay 0)))
           new_one)
 
-  pub pooled_more : ArePooled (record { sides = v; links = vec; owners = own; free = free; ready = ready })
+  pub pooled_more : ArePooled (record { sides = v; links = vec; owners = own; free = free })
   pooled_more =
       let l = length-append r.links.items (stay.Bay bay ∷ []) in
       record {
@@ -351,19 +313,14 @@ module _ (r : Inside) (inv : ArePooled r) (v : SidesValue) (vec : Vec Stay) (own
         bays = bays;
         few = subst (λ (xs : List Stay). length xs < 2 ^ 32) (sym items) (omega (arith, few, l));
         stays = subst (λ (xs : List Stay). (n : ℕ) → n < length xs → IsStay own.items n (stay_at xs n)) (sym items) stay_more;
-        ready = next;
+        free = subst (λ (xs : List Stay). AreGivenBack free own.items (map is_in_bay xs)) (sym items)
+            (subst (λ ks. AreGivenBack free own.items ks) (sym (map_push is_in_bay r.links.items (stay.Bay bay))) back);
       }
 
 -- what was pushed stands behind the others
 pub pushed_on : {A T E : Type 0} (r : Result T E) (x : T) (xs ys : List A) (y : A) → r ≡ Ok x →
     ys ≡ (if is_ok r then xs ++ y ∷ [] else xs) → ys ≡ xs ++ y ∷ []
 pushed_on r x xs ys y e h = h ∙ ap (λ z. if is_ok z then xs ++ y ∷ [] else xs) e
-
--- the bay that is ready has no owner still
-pub next_more : (owners more_owners : List (Option ℕ)) (x : Option ℕ) (o : Option ℕ) → more_owners ≡ owners ++ x ∷ [] →
-    IfSome o (λ n. slice_get owners n ≡ Some None) → IfSome o (λ n. slice_get more_owners n ≡ Some None)
-next_more owners more_owners x None e h = tt
-next_more owners more_owners x (Some bay) e h = subst (λ ys. slice_get ys bay ≡ Some None) (sym e) (owned_more owners x bay None h)
 
 -- no link is in a bay that has no owner, or that there was not
 module _ (r : Inside) (inv : ArePooled r) where
@@ -390,7 +347,7 @@ few_more r h = at (nat_lt (length r.links.items + 1) (2 ^ 32)) refl
     at true e = ltb-true (length r.links.items + 1) (2 ^ 32) e
     at false e =
         let none : links_spare r ≡ 0 =
-        (λ i. if e i && nat_lt (vec_len r.links) (vec_capacity r.links) then room_for r r.ready else 0) in
+        (λ i. if e i && nat_lt (vec_len r.links) (vec_capacity r.links) then room_for r else 0) in
         absurd (omega (arith, h, none))
 
 if-some : (b : Bool) (n : ℕ) → 0 < (if b then n else 0) → (b ≡ true) × (0 < n)
@@ -402,12 +359,13 @@ and-second true b h = h
 and-second false b h = absurd (cc h)
 
 -- where there is room for a link in a new bay, that can be given back
-pub bay_room : (r : Inside) → r.ready ≡ None → 0 < links_spare r → vec_len r.owners < vec_capacity r.free
+pub bay_room : (r : Inside) → vec_len r.free ≡ 0 → 0 < links_spare r → vec_len r.owners < vec_capacity r.free
 bay_room r none h =
     let few : Bool = nat_lt (length r.links.items + 1) (2 ^ 32) && nat_lt (vec_len r.links) (vec_capacity r.links) in
     let own : Bool = nat_lt (vec_len r.owners) (vec_capacity r.owners) in
     let back : Bool = nat_lt (vec_len r.owners) (vec_capacity r.free) in
-    let room : 0 < room_for r None = subst (λ o. 0 < room_for r o) none (if-some few (room_for r r.ready) h).1 in
+    let room : 0 < bays_of r =
+    subst (λ n. 0 < (if nat_lt 0 n then 1 else bays_of r)) none (if-some few (room_for r) h).1 in
     ltb-true (vec_len r.owners) (vec_capacity r.free) (and-second own back (if-some (own && back) r.sides.spare_links room).0)
 
 -- A link leaves its bay
@@ -472,15 +430,9 @@ module _ (r : Inside) (inv : ArePooled r) (link : ℕ) (b : link < length r.link
   abbrev left_owners : List (Option ℕ)
   left_owners = slice_set r.owners.items bay None
 
-  other_owner : (u : ℕ) (x : Option ℕ) → u ≢ bay → slice_get r.owners.items u ≡ Some x → slice_get left_owners u ≡ Some x
-  other_owner u x d p =
-      let w = slice_get_within r.owners.items u x p in
-      let l = length-set r.owners.items bay None in
-      get_kept r.owners.items left_owners u x None (get_or-set_other r.owners.items bay u None None d) (omega (arith, w, l)) p
-
   stay_still : (n : ℕ) → n ≢ link → (x : Stay) → IsStay r.owners.items n x → IsStay left_owners n x
   stay_still n d (stay.Bay u) p =
-      other_owner u (Some n) (λ e. d (one_owner r.owners.items bay n link (ap (slice_get r.owners.items) (sym e) ∙ p) owner_is)) p
+      other_set r.owners.items bay None u (Some n) (λ e. d (one_owner r.owners.items bay n link (ap (slice_get r.owners.items) (sym e) ∙ p) owner_is)) p
   stay_still n d (stay.Over z) p = p
 
   stays_left : (n : ℕ) → n < length (slice_set r.links.items link (stay.Over o)) →
@@ -496,16 +448,27 @@ module _ (r : Inside) (inv : ArePooled r) (link : ℕ) (b : link < length r.link
           subst (λ x. IsStay left_owners n x) (sym (get_or-set_other r.links.items link n (stay.Over o) (stay.Bay 0) d))
           (stay_still n d (stay_at r.links.items n) (inv.stays n (omega (arith, w, count_left))))
 
-  next_left : (x : Option ℕ) → IfSome x (λ n. slice_get r.owners.items n ≡ Some None) → IfSome x (λ n. slice_get left_owners n ≡ Some None)
-  next_left None h = tt
-  next_left (Some n) h = other_owner n None (λ e. unowned r.owners.items bay n link owner_is h (sym e)) h
+  kept_there : slice_index_or (map is_in_bay r.links.items) link true ≡ true
+  kept_there = get_or-map is_in_bay r.links.items link (stay.Bay 0) true b ∙ go (stay_at r.links.items link) in_bay
+    where
+      go : (x : Stay) → IsBay x → is_in_bay x ≡ true
+      go (stay.Bay u) h = refl
+      go (stay.Over z) h = absurd h
 
-  pub pooled_without : (free : Vec ℕ) →
+  count_kept : link < length (map is_in_bay r.links.items)
+  count_kept = let l = length-map r.links.items is_in_bay in omega (arith, b, l)
+
+  pub room_back : length r.free.items < vec_capacity r.free
+  room_back = back_room r.free r.owners.items (map is_in_bay r.links.items) inv.free bay link owner_is count_kept kept_there
+
+  pub pooled_without : (free : Vec ℕ) → free.items ≡ r.free.items ++ bay ∷ [] → vec_capacity free ≡ vec_capacity r.free →
       ArePooled (record r { links = with_item r.links link (stay.Over o); owners = with_item r.owners bay None; free = free })
-  pooled_without free = record {
+  pooled_without free items room = record {
     pairs = inv.pairs;
     bays = length-set r.owners.items bay None ∙ inv.bays;
     few = let f = inv.few in omega (arith, f, count_left);
     stays = stays_left;
-    ready = next_left r.ready inv.ready;
+    free = subst (λ ks. AreGivenBack free left_owners ks) (sym (map-set is_in_bay r.links.items link (stay.Over o)))
+        (back_left r.free r.owners.items (map is_in_bay r.links.items) inv.free bay link owner_is count_kept kept_there free items
+        room);
   }

@@ -67,7 +67,7 @@ pooled_same r inv v is = record {
   bays = inv.bays ∙ sym (ap (λ (z : Links). z.opened) is);
   few = inv.few;
   stays = inv.stays;
-  ready = inv.ready;
+  free = inv.free;
 }
 
 -- no room comes to a link that is over

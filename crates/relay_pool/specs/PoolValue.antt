@@ -1,6 +1,7 @@
 -- What contracts see of a pool: all links that were opened, for how many more there is room, for each side how many bytes of a read there
--- is room for, and of each link whether it is kept whole.
-use Rattle.std.specs.Prelude.{ℕ, Bool, true, not, ◌||◌, ◌&&◌, ◌==◌, List, length, is_some, slice_index_or}
+-- is room for, of each link whether it is kept whole, and how many bays there are to keep links in.
+use Rattle.std.specs.Prelude.{◌≡◌, ℕ, Bool, true, not, ◌||◌, ◌&&◌, ◌==◌, List, length, is_some, slice_index_or}
+use Rattle.std.specs.List.{count_by}
 use Rattle.ev_types.specs.declared.side.SideId.{SideId}
 use Rattle.ev_types.specs.Sides.{number, peer}
 use Rattle.relay_state.specs.Closing.{in_side, out_side}
@@ -11,6 +12,7 @@ pub record PoolValue : Type 0 where
   pub spare_links : ℕ
   pub spare_reads : List ℕ
   pub kept : List Bool
+  pub bays : ℕ
 
 abbrev pub read_spare : PoolValue → SideId → ℕ
 read_spare v e = slice_index_or v.spare_reads (number e) 0
@@ -32,3 +34,12 @@ is_done_link k link = is_done_side k (in_side link) && is_done_side k (out_side 
 -- the link is kept whole
 abbrev pub is_kept : PoolValue → ℕ → Bool
 is_kept v link = slice_index_or v.kept link true
+
+-- how many links are
+abbrev pub kept_links : PoolValue → ℕ
+kept_links v = count_by (λ x. x) v.kept
+
+-- the same links are, and there are as many bays
+pub record KeepsBays (old new : PoolValue) : Type 0 where
+  pub kept : new.kept ≡ old.kept
+  pub bays : new.bays ≡ old.bays

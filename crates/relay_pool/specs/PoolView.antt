@@ -1,8 +1,10 @@
 -- How a pool keeps its links: those that are not over in the bays of `relay_sides`, where each bay has at most one, and what is left of
 -- the others.
-use Rattle.std.specs.Prelude.{◌≡◌, ◌<◌, ◌+◌, ◌*◌, ◌/◌, ◌%◌, ◌^◌, ℕ, ◌&&◌, nat_lt, if◌then◌else◌, List, length, map}
+use Rattle.std.specs.Prelude.{◌≡◌, ◌≢◌, ◌<◌, ◌≤◌, ◌+◌, ◌*◌, ◌/◌, ◌%◌, ◌^◌, ℕ, Bool, ◌&&◌, nat_lt, if◌then◌else◌, List, length, map}
 use Rattle.std.specs.Prelude.{slice_index_or, slice_get}
-use Rattle.std.specs.Prelude.{Option, Some, None, IfSome, vec_len, vec_capacity}
+use Rattle.std.specs.Prelude.{Option, Some, None, vec_len, vec_capacity}
+use Rattle.std.specs.Global.{Vec}
+use Rattle.std.specs.List.{All, AllPairs, count_by}
 use Rattle.relay_model.specs.Plain.{no_side}
 use Rattle.relay_model.specs.Flow.{no_flow}
 use Rattle.relay_state.specs.Running.{no_gauge}
@@ -40,13 +42,12 @@ abbrev pub bays_of : Inside → ℕ
 bays_of r =
     if nat_lt (vec_len r.owners) (vec_capacity r.owners) && nat_lt (vec_len r.owners) (vec_capacity r.free) then r.sides.spare_links else 0
 
-abbrev pub room_for : Inside → Option ℕ → ℕ
-room_for r (Some bay) = 1
-room_for r None = bays_of r
+abbrev pub room_for : Inside → ℕ
+room_for r = if nat_lt 0 (vec_len r.free) then 1 else bays_of r
 
 abbrev pub links_spare : Inside → ℕ
 links_spare r =
-    if nat_lt (length r.links.items + 1) (2 ^ 32) && nat_lt (vec_len r.links) (vec_capacity r.links) then room_for r r.ready else 0
+    if nat_lt (length r.links.items + 1) (2 ^ 32) && nat_lt (vec_len r.links) (vec_capacity r.links) then room_for r else 0
 
 abbrev pub pool_of : Inside → PoolValue
 pool_of r = record {
@@ -54,12 +55,20 @@ pool_of r = record {
   spare_links = links_spare r;
   spare_reads = tabulate (λ n. room_in r.sides.spare_reads (stay_at r.links.items (n / 2)) (n % 2)) (2 * length r.links.items);
   kept = map is_in_bay r.links.items;
+  bays = length r.owners.items;
 }
 
--- Each bay has an owner or none. The one that is ready for the next link has none.
+-- The bays that were given back have no owner, are apart, and are as many as those that no link is in; there is room to give back all.
+pub record AreGivenBack (free : Vec ℕ) (owners : List (Option ℕ)) (kept : List Bool) : Type 0 where
+  pub unowned : All (λ bay. slice_get owners bay ≡ Some None) free.items
+  pub apart : AllPairs (λ x y. x ≢ y) free.items
+  pub others : length free.items + count_by (λ x. x) kept ≡ length owners
+  pub room : length owners ≤ vec_capacity free
+
+-- Each bay has an owner or none, and those without were given back.
 pub record ArePooled (r : Inside) : Type 0 where
   pub pairs : HasPairs r.sides.links
   pub bays : length r.owners.items ≡ r.sides.links.opened
   pub few : length r.links.items < 2 ^ 32
   pub stays : (link : ℕ) → link < length r.links.items → IsStay r.owners.items link (stay_at r.links.items link)
-  pub ready : IfSome r.ready (λ bay. slice_get r.owners.items bay ≡ Some None)
+  pub free : AreGivenBack r.free r.owners.items (map is_in_bay r.links.items)

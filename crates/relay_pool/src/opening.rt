@@ -1,11 +1,10 @@
 // Opening links, and giving up the bays of those that are over.
-ghost use Rattle.std.specs.Prelude.{◌≡◌, ◌≤◌, ◌<◌, ◌+◌, ◌-◌, true, false, None, [], Some, OnOk, IsOk, IfSome, slice_get, slice_index};
-ghost use Rattle.std.specs.Prelude.{vec_len, vec_capacity};
+ghost use Rattle.std.specs.Prelude.{◌≡◌, ◌≤◌, ◌<◌, ◌+◌, max, true, false, not, ◌&&◌, [], ◌∷◌, ◌++◌, OnOk, IsOk, slice_set};
 ghost use Rattle.ev_types.specs.Sides.{peer};
 ghost use Rattle.relay_sides.specs.Links.{with_link, side_at, lane_at};
 ghost use Rattle.relay_sides.specs.Opening.{limits_of};
 ghost use Rattle.relay_pool.specs.Over.{link_alone};
-ghost use Rattle.relay_pool.specs.PoolValue.{is_done_side, is_done_link, is_kept};
+ghost use Rattle.relay_pool.specs.PoolValue.{KeepsBays, is_done_side, is_done_link, is_kept, kept_links};
 ghost use Rattle.relay_pool.specs.Stays.{IsRemnant, IsDoneSide};
 
 use crate::bay::bay_of;
@@ -17,20 +16,6 @@ use relay_sides::{NewSide, Sides, SpareLimits};
 
 /// How many links can be opened: their numbers are below 2^32 - 1.
 const MOST_LINKS: usize = u32::MAX as usize;
-
-/// Takes the bay that was given back last, which has no link. None where there is none.
-fn take_free(free: &mut Vec<u32>, owners: &Vec<Option<u32>>) -> Option<u32>
-    ensures free { IfSome result (λ bay. slice_get owners.now.items bay ≡ Some None) }
-    ensures last { 0 < vec_len free.old → slice_get owners.now.items (slice_index free.old.items (vec_len free.old - 1)) ≡ Some None →
-        result ≡ Some (slice_index free.old.items (vec_len free.old - 1)) }
-    ensures capacity { vec_capacity free.new ≡ vec_capacity free.old }
-{
-    let bay = free.pop()?;
-    match owners.get(bay as usize) {
-        Some(None) => Some(bay),
-        _ => None,
-    }
-}
 
 /// Whether nothing is to be done at a side any more: it is freed and shut, and has no reference.
 fn is_idle(sides: &Sides, side: SideId) -> bool
@@ -73,6 +58,7 @@ impl LinkPool {
     /// Own.
     pub fn reserve_link(&mut self) -> Result<(), NoMemory>
         ensures links { self.new.links ≡ self.old.links }
+        ensures bays { KeepsBays self.old self.new }
         ensures room { OnOk result (0 < self.new.spare_links) }
         ensures there { 0 < self.old.spare_links → IsOk result }
     {
@@ -80,10 +66,7 @@ impl LinkPool {
             return Err(NoMemory);
         }
         self.links.reserve(1)?;
-        if self.ready.is_none() {
-            self.ready = take_free(&mut self.free, &self.owners);
-        }
-        if self.ready.is_some() {
+        if !self.free.is_empty() {
             return Ok(());
         }
         self.owners.reserve(1)?;
@@ -93,7 +76,7 @@ impl LinkPool {
     }
 
     /// Opens the next link in a turn and at its time, with its In and its Out side, in room and with memory for their limits that were
-    /// made before. Takes no memory; constant.
+    /// made before. It gets a bay that was given back, if there is one. Takes no memory; constant.
     ///
     /// Own.
     pub fn open(
@@ -107,11 +90,12 @@ impl LinkPool {
         requires room { 0 < self.old.spare_links }
         requires limits { limits_of near far ≤ spare.old }
         ensures links { self.new.links ≡ with_link time turn near far self.old.links }
+        ensures kept { self.new.kept ≡ self.old.kept ++ true ∷ [] }
+        ensures bays { self.new.bays ≡ max self.old.bays (kept_links self.new) }
         ensures spare { spare.old ≤ spare.new + limits_of near far }
     {
         let link = self.links.len() as u32;
-        if let Some(bay) = self.ready {
-            self.ready = None;
+        if let Some(bay) = self.free.pop() {
             self.sides.reopen(bay, near, far, time, turn, spare);
             self.owners[bay as usize] = Some(link);
             self.links.push(Stay::Bay(bay)).unwrap();
@@ -131,6 +115,9 @@ impl LinkPool {
         requires { link < self.old.links.opened }
         ensures links { self.new.links ≡ self.old.links }
         ensures over { is_done_link self.old.links link ≡ true → is_kept self.new link ≡ false }
+        ensures kept { self.new.kept
+            ≡ slice_set self.old.kept link (is_kept self.old link && not (is_done_link self.old.links link)) }
+        ensures bays { self.new.bays ≡ self.old.bays }
     {
         let Some(bay) = bay_of(&self.links, link) else {
             return;
@@ -146,6 +133,6 @@ impl LinkPool {
         self.links[link as usize] = Stay::Over(over);
         self.owners[bay as usize] = None;
         // its room was made with the bay
-        let _ = self.free.push(bay);
+        self.free.push_reserved(bay);
     }
 }

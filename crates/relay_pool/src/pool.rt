@@ -1,5 +1,5 @@
 // The links of a pool.
-ghost use Rattle.std.specs.Prelude.{◌≡◌};
+ghost use Rattle.std.specs.Prelude.{◌≡◌, []};
 ghost use Rattle.relay_sides.specs.Links.{no_links};
 ghost use Rattle.relay_sides.specs.Pairs.{HasPairs};
 
@@ -20,10 +20,8 @@ pub struct LinkPool {
     pub(crate) links: Vec<Stay>,
     /// The link that is in each bay.
     pub(crate) owners: Vec<Option<u32>>,
-    /// Bays that were given back.
+    /// Bays that were given back, for the next links.
     pub(crate) free: Vec<u32>,
-    /// The bay for the next link, where it gets one that was given back.
-    pub(crate) ready: Option<u32>,
 }
 
 impl Model for LinkPool {
@@ -43,14 +41,15 @@ impl LinkPool {
     ///
     /// Own.
     pub fn new(alloc: Global) -> LinkPool
-        ensures { result.links ≡ no_links }
+        ensures links { result.links ≡ no_links }
+        ensures kept { result.kept ≡ [] }
+        ensures bays { result.bays ≡ 0 }
     {
         LinkPool {
             sides: Sides::new(alloc),
             links: Vec::new(alloc),
             owners: Vec::new(alloc),
             free: Vec::new(alloc),
-            ready: None,
         }
     }
 

@@ -1,17 +1,17 @@
-use Rattle.std.proofs.Common.{◌≡◌, ◌<◌, [], ◌∷◌, ◌++◌, length, length-append, sym, ◌∙◌, ap, subst, arith}
-use Rattle.std.specs.Prelude.{Some, None, IfSome, slice_get}
+use Rattle.std.proofs.Common.{◌≡◌, ◌<◌, true, [], ◌∷◌, ◌++◌, length, length-append, map, sym, ◌∙◌, ap, subst, arith}
+use Rattle.std.specs.Prelude.{Some, None, slice_get}
 use Rattle.std.specs.Vec.{with_item}
 use Rattle.std.proofs.lemmas.List.{length-set}
 use Rattle.std.proofs.lemmas.Option.{slice_get_within}
 use Rattle.relay_sides.specs.Links.{Links, with_link, with_new_link}
 use Rattle.relay_sides.specs.Pairs.{HasPairs}
 use Rattle.relay_pool.specs.PoolValue.{PoolValue}
-use Rattle.relay_pool.specs.PoolView.{links_seen}
+use Rattle.relay_pool.specs.PoolView.{links_seen, AreGivenBack}
+use Rattle.relay_pool.specs.Stays.{is_in_bay}
 use Rattle.relay_pool.specs.declared.stay.Stay.TheVariants as stay
 use Rattle.relay_pool.proofs.OpeningLemmas.{links_more, touches_new, fresh_new, alike_link, fresh_link, pairs_link}
-use Rattle.relay_pool.proofs.OpeningLemmas.{pooled_more, owned_set, own_set, owned_more, own_more, away_free, away_more, few_more}
-use Rattle.relay_pool.proofs.OpeningLemmas.{pushed_on}
-use Rattle.relay_pool.proofs.OpeningLemmas.{next_more}
+use Rattle.relay_pool.proofs.OpeningLemmas.{pooled_more, away_free, away_more, few_more, bay_room, pushed_on}
+use Rattle.relay_pool.proofs.OwnerLemmas.{owned_set, own_set, owned_more, own_more, last_unowned, back_taken, back_more}
 use Rattle.relay_pool.proofs.pool.LinkPool.open.Goals as goal
 
 -- in a bay that was given back
@@ -21,15 +21,18 @@ invariant_of-self c =
     let r = c.self.inside in
     let inv = c.self.invariant in
     let bay = c.in-Some.bay in
-    let free = subst (λ o. IfSome o (λ n. slice_get r.owners.items n ≡ Some None)) c.in-Some.is inv.ready in
+    let kept = map is_in_bay r.links.items in
+    let items = c.in-Some.ensures.items in
+    let free = last_unowned r.free r.owners.items kept inv.free c.pop.new.self bay c.len-link.result items c.pop.ensures.capacity in
     let touch = touches_new bay c.args.time c.args.turn c.args.near c.args.far r.sides.links in
     let few = few_more r (subst (λ (z : PoolValue). 0 < z.spare_links) (sym c.self.view_is) c.requires.room) in
-    pooled_more r inv c.reopen.new.self c.push.new.self (with_item r.owners bay (Some c.len-link.result)) r.free None bay
+    pooled_more r inv c.reopen.new.self c.push.new.self (with_item r.owners bay (Some c.len-link.result)) c.pop.new.self bay
     (subst (λ (k : Links). HasPairs k) (sym c.reopen.ensures.links) (touch.pairs inv.pairs))
     (length-set r.owners.items bay (Some c.len-link.result) ∙ inv.bays ∙ sym (ap (λ (k : Links). k.opened) c.reopen.ensures.links)) few
     (pushed_on c.push.result c.unwrap.result r.links.items c.push.new.self.items (stay.Bay bay) c.unwrap.ensures c.push.ensures.items)
     (owned_set r.owners.items bay c.len-link.result free)
-    (own_set r.owners.items bay c.len-link.result free ∙ ap (λ n. Some (Some n)) (c.len-link.ensures ∙ r.links.ok.0)) tt
+    (own_set r.owners.items bay (Some c.len-link.result) None free ∙ ap (λ n. Some (Some n)) (c.len-link.ensures ∙ r.links.ok.0))
+    (back_taken r.free r.owners.items kept inv.free c.pop.new.self bay c.len-link.result items c.pop.ensures.capacity)
 
 pub returns-in-Some-clause-links : goal.returns-in-Some-clause-links
 returns-in-Some-clause-links c =
@@ -38,7 +41,8 @@ returns-in-Some-clause-links c =
     let bay = c.in-Some.bay in
     let k = r.sides.links in
     let new : Links = with_new_link bay c.args.time c.args.turn c.args.near c.args.far k in
-    let free = subst (λ o. IfSome o (λ n. slice_get r.owners.items n ≡ Some None)) c.in-Some.is inv.ready in
+    let free = last_unowned r.free r.owners.items (map is_in_bay r.links.items) inv.free c.pop.new.self bay c.len-link.result
+    c.in-Some.ensures.items c.pop.ensures.capacity in
     let there = slice_get_within r.owners.items bay None free in
     let touch = touches_new bay c.args.time c.args.turn c.args.near c.args.far k in
     let items = pushed_on c.push.result c.unwrap.result r.links.items c.push.new.self.items (stay.Bay bay) c.unwrap.ensures
@@ -58,10 +62,13 @@ invariant_of-self-2 c =
     let x = Some c.len-link.result in
     let own = pushed_on c.push-2.result c.unwrap-2.result r.owners.items c.push-2.new.self.items x c.unwrap-2.ensures
     c.push-2.ensures.items in
-    let few = few_more r (subst (λ (z : PoolValue). 0 < z.spare_links) (sym c.self.view_is) c.requires.room) in
+    let spare = subst (λ (z : PoolValue). 0 < z.spare_links) (sym c.self.view_is) c.requires.room in
+    let few = few_more r spare in
+    let none = c.in_default.ensures.cases in
+    let room = bay_room r none.0 spare in
     let opened = ap (λ (k : Links). k.opened) c.open.ensures.links in
     let bay : c.opened-bay.result ≡ length r.owners.items = c.opened-bay.ensures.count ∙ sym inv.bays in
-    pooled_more r inv c.open.new.self c.push-3.new.self c.push-2.new.self r.free r.ready c.opened-bay.result
+    pooled_more r inv c.open.new.self c.push-3.new.self c.push-2.new.self c.pop.new.self c.opened-bay.result
     (subst (λ (k : Links). HasPairs k) (sym c.open.ensures.links)
     (pairs_link c.args.time c.args.turn c.args.near c.args.far r.sides.links inv.pairs))
     (ap length own ∙ (let l = length-append r.owners.items (x ∷ []) in omega (arith, l, inv.bays, opened))) few
@@ -71,7 +78,9 @@ invariant_of-self-2 c =
     (subst (λ ys. slice_get ys c.opened-bay.result ≡ Some (Some (length r.links.items))) (sym own)
     (ap (slice_get (r.owners.items ++ x ∷ [])) bay ∙ own_more r.owners.items x ∙ ap (λ n. Some (Some n)) (c.len-link.ensures ∙
     r.links.ok.0)))
-    (next_more r.owners.items c.push-2.new.self.items x r.ready own inv.ready)
+    (subst (λ ys. AreGivenBack c.pop.new.self ys (map is_in_bay r.links.items ++ true ∷ [])) (sym own)
+    (back_more r.free r.owners.items (map is_in_bay r.links.items) inv.free c.pop.new.self x (sym r.free.ok.0 ∙ none.0)
+    (sym c.pop.new.self.ok.0 ∙ none.1) (omega (arith, room, r.owners.ok.0, c.pop.ensures.capacity))))
 
 pub returns-clause-links : goal.returns-clause-links
 returns-clause-links c =
