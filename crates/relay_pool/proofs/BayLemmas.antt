@@ -21,9 +21,10 @@ use Rattle.relay_sides.specs.Table.{tabulate}
 use Rattle.relay_sides.proofs.BevsLemmas.{number-lt}
 use Rattle.relay_sides.proofs.TableLemmas.{length-tabulate, get-tabulate}
 use Rattle.relay_pool.specs.Over.{one_side}
-use Rattle.relay_pool.specs.PoolValue.{PoolValue, has_live_side}
+use Rattle.relay_pool.specs.PoolValue.{PoolValue, KeepsBays, has_live_side}
 use Rattle.relay_pool.specs.PoolView.{part_at, links_seen, pool_of, AreGivenBack, ArePooled}
-use Rattle.relay_pool.specs.Stays.{links_with, link_in, stay_at, at_stay, is_in_bay, IsBay, IsOutOfBay, IsRemnant, IsStay, IsLeftBy, Remembers}
+use Rattle.relay_pool.specs.Stays.{links_with, link_in, stay_at, at_stay, is_in_bay, IsBay, IsOutOfBay, IsRemnant, IsStay}
+use Rattle.relay_pool.specs.Stays.{IsLeftBy, Remembers}
 use Rattle.relay_pool.specs.declared.pool.LinkPool.TheInside.{Inside}
 use Rattle.relay_pool.specs.declared.stay.Over.{Over}
 use Rattle.relay_pool.specs.declared.stay.Stay.{Stay}
@@ -437,6 +438,12 @@ module _ (v : PoolValue) (r : Inside) (is : pool_of r ≡ v) (inv : ArePooled r)
 
       pub pooled_over : ArePooled (record r { links = now })
       pooled_over = pooled_left r inv e.link below_pool left (F (one_side e.side)) now.items went now refl
+
+      pub bays_left : KeepsBays v (pool_of (record r { links = now }))
+      bays_left = record {
+        kept = kept_left r inv e.link below_pool left (F (one_side e.side)) now.items went ∙ ap (λ (z : PoolValue). z.kept) is;
+        bays = ap (λ (z : PoolValue). z.bays) is;
+      }
 
   -- so a link is in a bay of which a side is live, or has a reference
 

@@ -1,6 +1,6 @@
 -- A link more, in a bay of its own, and one that leaves its bay.
-use Rattle.std.proofs.Common.{◌≡◌, ◌≢◌, ℕ, suc, ◌+◌, ◌*◌, ◌/◌, ◌%◌, ◌^◌, ◌<◌, ◌≤◌, Bool, true, false, ◌==◌, List, [], ◌∷◌, ◌++◌, length, map}
-use Rattle.std.proofs.Common.{slice_index_or, slice_set, refl, sym, ◌∙◌, ap, arith, eqb-true, subst, nat_lt, length-append}
+use Rattle.std.proofs.Common.{◌≡◌, ◌≢◌, ℕ, suc, ◌+◌, ◌*◌, ◌/◌, ◌%◌, ◌^◌, ◌<◌, ◌≤◌, Bool, true, false, ◌==◌, List, [], ◌∷◌, ◌++◌}
+use Rattle.std.proofs.Common.{length, map, slice_index_or, slice_set, refl, sym, ◌∙◌, ap, arith, eqb-true, subst, nat_lt, length-append}
 use Rattle.std.specs.Global.{Vec}
 use Rattle.std.specs.Prelude.{Result, Ok}
 use Rattle.std.specs.Result.{is_ok}
@@ -432,7 +432,8 @@ module _ (r : Inside) (inv : ArePooled r) (link : ℕ) (b : link < length r.link
 
   stay_still : (n : ℕ) → n ≢ link → (x : Stay) → IsStay r.owners.items n x → IsStay left_owners n x
   stay_still n d (stay.Bay u) p =
-      other_set r.owners.items bay None u (Some n) (λ e. d (one_owner r.owners.items bay n link (ap (slice_get r.owners.items) (sym e) ∙ p) owner_is)) p
+      other_set r.owners.items bay None u (Some n)
+      (λ e. d (one_owner r.owners.items bay n link (ap (slice_get r.owners.items) (sym e) ∙ p) owner_is)) p
   stay_still n d (stay.Over z) p = p
 
   stays_left : (n : ℕ) → n < length (slice_set r.links.items link (stay.Over o)) →

@@ -35,11 +35,11 @@ is_done_link k link = is_done_side k (in_side link) && is_done_side k (out_side 
 abbrev pub is_kept : PoolValue → ℕ → Bool
 is_kept v link = slice_index_or v.kept link true
 
--- how many links are
+-- how many links are kept whole
 abbrev pub kept_links : PoolValue → ℕ
 kept_links v = count_by (λ x. x) v.kept
 
--- the same links are, and there are as many bays
+-- the same links are kept whole, and there are as many bays
 pub record KeepsBays (old new : PoolValue) : Type 0 where
   pub kept : new.kept ≡ old.kept
   pub bays : new.bays ≡ old.bays

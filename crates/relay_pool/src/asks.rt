@@ -4,7 +4,7 @@ ghost use Rattle.std.specs.Prelude.{◌≡◌, ◌<◌, ◌+◌, ◌-◌, ◌^�
 ghost use Rattle.relay_model.specs.Asks.{enabled, marked};
 ghost use Rattle.relay_model.specs.Moments.{active_at, expire};
 ghost use Rattle.relay_sides.specs.Links.{side_at, change_side};
-ghost use Rattle.relay_pool.specs.PoolValue.{has_live_side};
+ghost use Rattle.relay_pool.specs.PoolValue.{KeepsBays, has_live_side};
 
 use crate::bay::at;
 use crate::pool::LinkPool;
@@ -18,7 +18,8 @@ impl LinkPool {
     pub fn enable(&mut self, side: SideId, dir: Dir)
         requires opened { side.link < self.old.links.opened }
         requires open { has_live_side self.old.links side ≡ true }
-        ensures { self.new.links ≡ change_side side (enabled dir true) self.old.links }
+        ensures links { self.new.links ≡ change_side side (enabled dir true) self.old.links }
+        ensures bays { KeepsBays self.old self.new }
     {
         self.sides.enable(at(&self.links, side), dir);
     }
@@ -29,7 +30,8 @@ impl LinkPool {
     pub fn disable(&mut self, side: SideId, dir: Dir)
         requires opened { side.link < self.old.links.opened }
         requires open { has_live_side self.old.links side ≡ true }
-        ensures { self.new.links ≡ change_side side (enabled dir false) self.old.links }
+        ensures links { self.new.links ≡ change_side side (enabled dir false) self.old.links }
+        ensures bays { KeepsBays self.old self.new }
     {
         self.sides.disable(at(&self.links, side), dir);
     }
@@ -40,7 +42,8 @@ impl LinkPool {
     pub fn set_watermark(&mut self, side: SideId, dir: Dir, low: u64, high: u64)
         requires opened { side.link < self.old.links.opened }
         requires open { has_live_side self.old.links side ≡ true }
-        ensures { self.new.links ≡ change_side side (λ x. record x { marks = marked dir low high x.marks }) self.old.links }
+        ensures links { self.new.links ≡ change_side side (λ x. record x { marks = marked dir low high x.marks }) self.old.links }
+        ensures bays { KeepsBays self.old self.new }
     {
         self.sides
             .set_watermark(at(&self.links, side), dir, low, high);
@@ -53,10 +56,11 @@ impl LinkPool {
     pub fn set_timeouts(&mut self, side: SideId, read_ms: u64, write_ms: u64, time: u64)
         requires opened { side.link < self.old.links.opened }
         requires open { has_live_side self.old.links side ≡ true }
-        ensures { self.new.links
+        ensures links { self.new.links
             ≡ change_side side
             (λ x. record x { timeouts = record { read_ms = read_ms; write_ms = write_ms }; last_read = time; last_write = time })
             self.old.links }
+        ensures bays { KeepsBays self.old self.new }
     {
         self.sides
             .set_timeouts(at(&self.links, side), read_ms, write_ms, time);
@@ -69,7 +73,8 @@ impl LinkPool {
         requires opened { side.link < self.old.links.opened }
         requires open { has_live_side self.old.links side ≡ true }
         requires few { (side_at self.old.links side).references < 2 ^ 32 - 1 }
-        ensures { self.new.links ≡ change_side side (λ x. record x { references = x.references + 1 }) self.old.links }
+        ensures links { self.new.links ≡ change_side side (λ x. record x { references = x.references + 1 }) self.old.links }
+        ensures bays { KeepsBays self.old self.new }
     {
         self.sides.incref(at(&self.links, side));
     }
@@ -81,7 +86,8 @@ impl LinkPool {
     pub fn decref(&mut self, side: SideId)
         requires opened { side.link < self.old.links.opened }
         requires some { 0 < (side_at self.old.links side).references }
-        ensures { self.new.links ≡ change_side side (λ x. record x { references = x.references - 1 }) self.old.links }
+        ensures links { self.new.links ≡ change_side side (λ x. record x { references = x.references - 1 }) self.old.links }
+        ensures bays { KeepsBays self.old self.new }
     {
         self.sides.decref(at(&self.links, side));
     }
@@ -92,7 +98,8 @@ impl LinkPool {
     pub fn be_active(&mut self, side: SideId, dir: Dir, time: u64)
         requires opened { side.link < self.old.links.opened }
         requires open { has_live_side self.old.links side ≡ true }
-        ensures { self.new.links ≡ change_side side (active_at time dir) self.old.links }
+        ensures links { self.new.links ≡ change_side side (active_at time dir) self.old.links }
+        ensures bays { KeepsBays self.old self.new }
     {
         self.sides.be_active(at(&self.links, side), dir, time);
     }
@@ -103,7 +110,8 @@ impl LinkPool {
     pub fn expire(&mut self, side: SideId, dir: Dir)
         requires opened { side.link < self.old.links.opened }
         requires open { has_live_side self.old.links side ≡ true }
-        ensures { self.new.links ≡ change_side side (expire dir) self.old.links }
+        ensures links { self.new.links ≡ change_side side (expire dir) self.old.links }
+        ensures bays { KeepsBays self.old self.new }
     {
         self.sides.expire(at(&self.links, side), dir);
     }

@@ -1,6 +1,7 @@
 // How a direction ends: writing is ended at its end, sides are freed, and their ends are closed.
 ghost use Rattle.std.specs.Prelude.{◌≡◌, ◌<◌, true};
 ghost use Rattle.relay_sides.specs.Links.{change_side, freed};
+ghost use Rattle.relay_pool.specs.PoolValue.{KeepsBays};
 
 use crate::bay::bay;
 use crate::change::Change;
@@ -15,7 +16,8 @@ impl LinkPool {
     /// Differs: its bytes are dropped at once.
     pub fn free(&mut self, side: SideId)
         requires { side.link < self.old.links.opened }
-        ensures { self.new.links ≡ freed side self.old.links }
+        ensures links { self.new.links ≡ freed side self.old.links }
+        ensures bays { KeepsBays self.old self.new }
     {
         match bay(&self.links, side) {
             Some(at) => self.sides.free(at),
@@ -28,7 +30,8 @@ impl LinkPool {
     /// Own.
     pub fn end_writing(&mut self, side: SideId)
         requires { side.link < self.old.links.opened }
-        ensures { self.new.links ≡ change_side side (λ x. record x { write_ended = true }) self.old.links }
+        ensures links { self.new.links ≡ change_side side (λ x. record x { write_ended = true }) self.old.links }
+        ensures bays { KeepsBays self.old self.new }
     {
         match bay(&self.links, side) {
             Some(at) => self.sides.end_writing(at),
@@ -41,7 +44,8 @@ impl LinkPool {
     /// Own.
     pub fn shut(&mut self, side: SideId)
         requires { side.link < self.old.links.opened }
-        ensures { self.new.links ≡ change_side side (λ x. record x { closed = true }) self.old.links }
+        ensures links { self.new.links ≡ change_side side (λ x. record x { closed = true }) self.old.links }
+        ensures bays { KeepsBays self.old self.new }
     {
         match bay(&self.links, side) {
             Some(at) => self.sides.shut(at),

@@ -3,7 +3,7 @@ ghost use Rattle.std.specs.Prelude.{◌≡◌, ◌<◌, ◌≤◌, ◌+◌, ◌^
 ghost use Rattle.std.specs.Option.{option_to_list};
 ghost use Rattle.relay_sides.specs.Links.{side_at, gauge_at, change_side, allowance_at, limited, bucket_spent};
 ghost use Rattle.relay_sides.specs.KeptLimits.{IsAllowed, limit_gains};
-ghost use Rattle.relay_pool.specs.PoolValue.{has_live_side};
+ghost use Rattle.relay_pool.specs.PoolValue.{KeepsBays, has_live_side};
 
 use crate::bay::{at, bay};
 use crate::change::Change;
@@ -35,6 +35,7 @@ impl LinkPool {
         requires later { (gauge_at self.old.links side).time ≤ time }
         requires within { IsAllowed count (allowance_at time self.old.links side dir) }
         ensures links { self.new.links ≡ bucket_spent time side dir count self.old.links }
+        ensures bays { KeepsBays self.old self.new }
         ensures reads { self.new.spare_reads ≡ self.old.spare_reads }
     {
         match bay(&self.links, side) {
@@ -60,6 +61,7 @@ impl LinkPool {
         requires later { (gauge_at self.old.links side).time ≤ time }
         requires room { 0 < spare.old }
         ensures links { self.new.links ≡ limited time turn side cfg self.old.links }
+        ensures bays { KeepsBays self.old self.new }
         ensures spare { spare.old ≤ spare.new + 1 }
     {
         self.sides
@@ -87,7 +89,8 @@ impl LinkPool {
     pub fn set_group(&mut self, side: SideId, group: Option<u32>)
         requires opened { side.link < self.old.links.opened }
         requires live { (side_at self.old.links side).live ≡ true }
-        ensures { self.new.links ≡ change_side side (λ x. record x { group = group }) self.old.links }
+        ensures links { self.new.links ≡ change_side side (λ x. record x { group = group }) self.old.links }
+        ensures bays { KeepsBays self.old self.new }
     {
         self.sides.set_group(at(&self.links, side), group);
     }

@@ -3,6 +3,7 @@ ghost use Rattle.std.specs.Prelude.{◌≡◌, ◌<◌, MatchResult, Ok, true, f
 ghost use Rattle.relay_state.specs.Closing.{in_side, out_side};
 ghost use Rattle.relay_sides.specs.LinkPasses.{PassedLink, PartlyPassedLink, NoRoundOfLinkChanges};
 ghost use Rattle.relay_sides.specs.Progress.{is_settled_from};
+ghost use Rattle.relay_pool.specs.PoolValue.{KeepsBays};
 
 use crate::bay::bay_of;
 use crate::pool::LinkPool;
@@ -24,6 +25,7 @@ impl LinkPool {
         ensures still { result ≡ Ok false → NoRoundOfLinkChanges hold self.old.links link }
         ensures settled { is_settled_from hold self.old.links (in_side link) ≡ true →
             is_settled_from hold self.old.links (out_side link) ≡ true → result ≡ Ok false }
+        ensures bays { KeepsBays self.old self.new }
     {
         match bay_of(&self.links, link) {
             Some(bay) => self.sides.pass_link(bay, hold),

@@ -2,7 +2,7 @@
 ghost use Rattle.std.specs.Prelude.{◌≡◌, ◌<◌, ◌≤◌, true, false, OnOk, IsOk, length, take, vec_len};
 ghost use Rattle.ev_types.specs.Sides.{peer};
 ghost use Rattle.relay_sides.specs.Links.{lane_at, change_side, after_got, after_took};
-ghost use Rattle.relay_pool.specs.PoolValue.{read_spare};
+ghost use Rattle.relay_pool.specs.PoolValue.{KeepsBays, read_spare};
 
 use crate::bay::{at, bay};
 use crate::change::Change;
@@ -19,6 +19,7 @@ impl LinkPool {
     pub fn reserve_read(&mut self, side: SideId, room: usize) -> Result<(), NoMemory>
         requires { side.link < self.old.links.opened }
         ensures links { self.new.links ≡ self.old.links }
+        ensures bays { KeepsBays self.old self.new }
         ensures room { OnOk result (room ≤ read_spare self.new side) }
         ensures there { 0 < room → room ≤ read_spare self.old side → IsOk result }
     {
@@ -39,6 +40,7 @@ impl LinkPool {
         requires within { n ≤ vec_len block.old }
         requires room { n ≤ read_spare self.old side }
         ensures links { self.new.links ≡ after_got time side (take n block.old.items) self.old.links }
+        ensures bays { KeepsBays self.old self.new }
         ensures block { vec_len block.new ≡ vec_len block.old }
     {
         self.sides.got(at(&self.links, side), block, n, time);
@@ -49,7 +51,8 @@ impl LinkPool {
     /// Libevent: event2/bufferevent.h, `BEV_EVENT_EOF`; "Bufferevents: concepts and basics".
     pub fn ended(&mut self, side: SideId)
         requires { side.link < self.old.links.opened }
-        ensures { self.new.links ≡ change_side side (λ x. record x { ended = true; reads = false }) self.old.links }
+        ensures links { self.new.links ≡ change_side side (λ x. record x { ended = true; reads = false }) self.old.links }
+        ensures bays { KeepsBays self.old self.new }
     {
         match bay(&self.links, side) {
             Some(at) => self.sides.ended(at),
@@ -62,7 +65,8 @@ impl LinkPool {
     /// Libevent: event2/bufferevent.h, `BEV_EVENT_ERROR`; "Bufferevents: concepts and basics".
     pub fn read_failed(&mut self, side: SideId)
         requires { side.link < self.old.links.opened }
-        ensures { self.new.links ≡ change_side side (λ x. record x { failed = true; reads = false }) self.old.links }
+        ensures links { self.new.links ≡ change_side side (λ x. record x { failed = true; reads = false }) self.old.links }
+        ensures bays { KeepsBays self.old self.new }
     {
         match bay(&self.links, side) {
             Some(at) => self.sides.read_failed(at),
@@ -75,7 +79,8 @@ impl LinkPool {
     /// Libevent: event2/bufferevent.h, `BEV_EVENT_ERROR`; "Bufferevents: concepts and basics".
     pub fn write_failed(&mut self, side: SideId)
         requires { side.link < self.old.links.opened }
-        ensures { self.new.links ≡ change_side side (λ x. record x { failed = true; writes = false }) self.old.links }
+        ensures links { self.new.links ≡ change_side side (λ x. record x { failed = true; writes = false }) self.old.links }
+        ensures bays { KeepsBays self.old self.new }
     {
         match bay(&self.links, side) {
             Some(at) => self.sides.write_failed(at),
@@ -88,7 +93,8 @@ impl LinkPool {
     /// Libevent: event2/bufferevent.h, `BEV_EVENT_CONNECTED`; "Bufferevents: concepts and basics".
     pub fn connected(&mut self, side: SideId)
         requires { side.link < self.old.links.opened }
-        ensures { self.new.links ≡ change_side side (λ x. record x { connecting = false }) self.old.links }
+        ensures links { self.new.links ≡ change_side side (λ x. record x { connecting = false }) self.old.links }
+        ensures bays { KeepsBays self.old self.new }
     {
         match bay(&self.links, side) {
             Some(at) => self.sides.connected(at),
@@ -102,7 +108,8 @@ impl LinkPool {
     pub fn took(&mut self, side: SideId, count: usize, time: u64)
         requires opened { side.link < self.old.links.opened }
         requires within { count ≤ length (lane_at self.old.links (peer side)).buffers.raw_output }
-        ensures { self.new.links ≡ after_took time side count self.old.links }
+        ensures links { self.new.links ≡ after_took time side count self.old.links }
+        ensures bays { KeepsBays self.old self.new }
     {
         match bay(&self.links, side) {
             Some(at) => self.sides.took(at, count, time),

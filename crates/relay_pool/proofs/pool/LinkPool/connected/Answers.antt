@@ -3,7 +3,7 @@ use Rattle.relay_sides.specs.Links.{change_side}
 use Rattle.relay_pool.proofs.CallLemmas.{lifts_change, lifts_changed}
 use Rattle.relay_pool.specs.Over.{with_change}
 use Rattle.relay_pool.specs.declared.change.Change.TheVariants as change
-use Rattle.relay_pool.proofs.BayLemmas.{links_bay, links_left, pooled_over}
+use Rattle.relay_pool.proofs.BayLemmas.{bays_left, links_bay, links_left, pooled_over}
 use Rattle.relay_pool.proofs.pool.LinkPool.connected.Goals as goal
 
 pub invariant_of-self-in-None : goal.invariant_of-self-in-None
@@ -12,15 +12,21 @@ invariant_of-self-in-None c =
     with_change (change.Connected) e k)
     (lifts_changed (change.Connected)) c.change_left.new.links c.change_left.ensures
 
-pub returns-in-Some : goal.returns-in-Some
-returns-in-Some c =
+pub returns-in-Some-clause-links : goal.returns-in-Some-clause-links
+returns-in-Some-clause-links c =
     links_bay c.args.self.now c.self.inside c.self.view_is c.self.invariant c.args.side c.requires c.in-Some.at c.in-Some.ensures.1
     c.in-Some.ensures.0
     (λ e k. change_side e (λ x. record x { connecting = false }) k) (lifts_change (λ x. record x { connecting = false }))
     c.connected.new.self.links c.connected.ensures
 
-pub returns-in-None : goal.returns-in-None
-returns-in-None c =
+pub returns-in-None-clause-links : goal.returns-in-None-clause-links
+returns-in-None-clause-links c =
     links_left c.args.self.now c.self.inside c.self.view_is c.self.invariant c.args.side c.requires c.in-None.ensures (λ e k.
+    with_change (change.Connected) e k) (lifts_changed (change.Connected))
+    c.change_left.new.links c.change_left.ensures
+
+pub returns-in-None-clause-bays : goal.returns-in-None-clause-bays
+returns-in-None-clause-bays c =
+    bays_left c.args.self.now c.self.inside c.self.view_is c.self.invariant c.args.side c.requires c.in-None.ensures (λ e k.
     with_change (change.Connected) e k) (lifts_changed (change.Connected))
     c.change_left.new.links c.change_left.ensures

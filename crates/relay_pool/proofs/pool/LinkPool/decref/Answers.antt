@@ -20,8 +20,8 @@ decref-requires-clause-some c =
     c.requires.opened c.at.result c.at.ensures (bay_held c.args.self.now c.self.inside c.self.view_is c.self.invariant c.args.side
     c.requires.opened c.requires.some))) c.requires.some
 
-pub returns : goal.returns
-returns c =
+pub returns-clause-links : goal.returns-clause-links
+returns-clause-links c =
     links_bay c.args.self.now c.self.inside c.self.view_is c.self.invariant c.args.side c.requires.opened c.at.result c.at.ensures
     (bay_held c.args.self.now c.self.inside c.self.view_is c.self.invariant c.args.side c.requires.opened c.requires.some)
     (λ e k. change_side e (λ x. record x { references = x.references - 1 }) k) (lifts_change (λ x. record x {

@@ -13,8 +13,8 @@ expire-requires c =
     below_met c.args.self.now c.self.inside c.self.view_is c.self.invariant c.args.side c.requires.opened c.at.result c.at.ensures
     (bay_open c.args.self.now c.self.inside c.self.view_is c.self.invariant c.args.side c.requires.opened c.requires.«open»)
 
-pub returns : goal.returns
-returns c =
+pub returns-clause-links : goal.returns-clause-links
+returns-clause-links c =
     links_bay c.args.self.now c.self.inside c.self.view_is c.self.invariant c.args.side c.requires.opened c.at.result c.at.ensures
     (bay_open c.args.self.now c.self.inside c.self.view_is c.self.invariant c.args.side c.requires.opened c.requires.«open»)
     (λ e k. change_side e (expire c.args.dir) k) (lifts_change (expire c.args.dir)) c.expire.new.self.links c.expire.ensures

@@ -20,8 +20,8 @@ incref-requires-clause-few c =
     c.args.side c.requires.opened c.at.result c.at.ensures (bay_open c.args.self.now c.self.inside c.self.view_is c.self.invariant
     c.args.side c.requires.opened c.requires.«open»))) c.requires.few
 
-pub returns : goal.returns
-returns c =
+pub returns-clause-links : goal.returns-clause-links
+returns-clause-links c =
     links_bay c.args.self.now c.self.inside c.self.view_is c.self.invariant c.args.side c.requires.opened c.at.result c.at.ensures
     (bay_open c.args.self.now c.self.inside c.self.view_is c.self.invariant c.args.side c.requires.opened c.requires.«open»)
     (λ e k. change_side e (λ x. record x { references = x.references + 1 }) k) (lifts_change (λ x. record x {

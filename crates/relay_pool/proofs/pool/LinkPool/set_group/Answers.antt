@@ -20,8 +20,8 @@ set_group-requires-clause-live c =
     c.requires.opened c.at.result c.at.ensures (bay_live c.args.self.now c.self.inside c.self.view_is c.self.invariant c.args.side
     c.requires.opened c.requires.live))) c.requires.live
 
-pub returns : goal.returns
-returns c =
+pub returns-clause-links : goal.returns-clause-links
+returns-clause-links c =
     links_bay c.args.self.now c.self.inside c.self.view_is c.self.invariant c.args.side c.requires.opened c.at.result c.at.ensures
     (bay_live c.args.self.now c.self.inside c.self.view_is c.self.invariant c.args.side c.requires.opened c.requires.live)
     (λ e k. change_side e (λ x. record x { group = c.args.group }) k) (lifts_change (λ x. record x { group = c.args.group }))

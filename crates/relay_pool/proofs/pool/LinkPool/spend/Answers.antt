@@ -8,7 +8,7 @@ use Rattle.relay_sides.specs.Links.{bucket_spent}
 use Rattle.relay_pool.proofs.CallLemmas.{lifts_spent, lifts_changed}
 use Rattle.relay_pool.specs.Over.{with_change, one_side}
 use Rattle.relay_pool.specs.declared.change.Change.TheVariants as change
-use Rattle.relay_pool.proofs.BayLemmas.{gauge_met, links_bay, links_left, pooled_over, side_met}
+use Rattle.relay_pool.proofs.BayLemmas.{bays_left, gauge_met, links_bay, links_left, pooled_over, side_met}
 use Rattle.relay_pool.proofs.ReadLemmas.{reads_left}
 use Rattle.relay_pool.proofs.pool.LinkPool.spend.Goals as goal
 
@@ -49,3 +49,9 @@ returns-in-None-clause-reads c =
     reads_left c.args.self.now c.self.inside c.self.view_is c.self.invariant c.args.side c.requires.opened c.in-None.ensures
     (with_change (change.Spent c.args.dir c.args.count c.args.time) (one_side c.args.side.side)) c.change_left.new.links.items
     c.change_left.ensures
+
+pub returns-in-None-clause-bays : goal.returns-in-None-clause-bays
+returns-in-None-clause-bays c =
+    bays_left c.args.self.now c.self.inside c.self.view_is c.self.invariant c.args.side c.requires.opened c.in-None.ensures (λ e k.
+    with_change (change.Spent c.args.dir c.args.count c.args.time) e k)
+    (lifts_changed (change.Spent c.args.dir c.args.count c.args.time)) c.change_left.new.links c.change_left.ensures
