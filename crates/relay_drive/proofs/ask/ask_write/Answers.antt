@@ -61,7 +61,8 @@ returns-clause-went g c =
     let is : write_events c.args.side from answer ≡ one = some_write c.args.side from answer some in
     let new = c.write_answered.new.self.state in
     let offered : nat_lt 0 (write_room old c.args.side) ≡ true =
-    offered-some old c.args.side false (ap (λ z. length z == 0) (sym c.offer-offer.ensures) ∙ sym c.is_empty.ensures ∙ c.if-is_empty.false) in
+    offered-some old c.args.side false
+    (ap (λ z. length z == 0) (sym c.offer-offer.ensures) ∙ sym c.is_empty.ensures ∙ c.if-is_empty.false) in
     goes_as {R = Writes c.args.side answer}
     (λ a p. subst (λ b. MatchBool b ((answer : WriteAnswer) × Writes c.args.side answer old a new) (Nothing old a new))
     (sym offered) (answer, p))

@@ -27,7 +27,8 @@ invariant_of-self c =
           (ap (λ (z : Links). z.opened) c.free.ensures.links);
       grouping = grouping-left r.grouped c.free.new.self.links.opened (number e) r.groups.value.members c.leave.new.groups.value.members
           (ap (λ (z : GroupsValue). z.members) c.leave.ensures)
-          (grouping-at r.grouped k.opened c.free.new.self.links.opened r.groups.value.members (ap (λ (z : Links). z.opened) c.free.ensures.links)
+          (grouping-at r.grouped k.opened c.free.new.self.links.opened r.groups.value.members
+          (ap (λ (z : Links). z.opened) c.free.ensures.links)
           h.grouping);
       time = h.time;
       few = h.few;
