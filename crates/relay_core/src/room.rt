@@ -1,14 +1,14 @@
 // How many bytes may be read from a side's end and given to it now, and what a side wants.
-ghost use Rattle.std.specs.Prelude.{◌≡◌, ◌<◌, ◌&&◌, not};
+ghost use Rattle.std.specs.Prelude.{◌≡◌, ◌<◌};
 ghost use Rattle.token_bucket.specs.declared.limit.Dir.TheVariants.{Read, Write};
-ghost use Rattle.relay_model.specs.Plain.{side_at};
-ghost use Rattle.relay_model.specs.Rooms.{read_mark, hold_mark, may_read, may_write};
-ghost use Rattle.relay_sides.specs.SideView.{flags_of};
+ghost use Rattle.relay_pool.specs.Space.{read_space, write_space, space_of};
+ghost use Rattle.relay_core.specs.RelayValue.{links_in};
 ghost use Rattle.relay_state.specs.Rooms.{read_room, write_room, offer as offer_of, wants};
 
 use crate::relay::Relay;
 use ev_types::SideId;
-use relay_sides::{Dir, MOST_AT_ONCE, SideFlags};
+use relay_pool::Space;
+use relay_sides::{Dir, MOST_AT_ONCE};
 
 /// What a side wants.
 ///
@@ -21,60 +21,40 @@ pub struct Wants {
     pub write: bool,
 }
 
-/// Whether a side of which this is so waits to be told that it is connected.
-fn awaits_connection(flags: SideFlags) -> bool
-    ensures { result ≡ (flags.live && flags.connecting && not flags.failed) }
-{
-    flags.live && flags.connecting && !flags.failed
-}
-
 impl Relay {
-    /// Whether a side of which this is so may be read.
-    fn may_read(&self, side: SideId, flags: SideFlags) -> bool
+    /// How many bytes may be read from the end of a side with so much space.
+    fn room_to_read(&self, side: SideId, space: usize) -> usize
         requires opened { side.link < self.now.state.plain.opened }
-        requires flags { flags ≡ flags_of (side_at self.now.state.plain side) }
-        ensures { result ≡ may_read self.now.state.plain side }
-    {
-        flags.live
-            && !flags.connecting
-            && flags.reads
-            && !flags.ended
-            && !flags.failed
-            && self.ctl.sides.is_live(side.peer())
-    }
-
-    /// How many bytes may be read from the end of a side of which this is so.
-    fn room_to_read(&self, side: SideId, flags: SideFlags) -> usize
-        requires opened { side.link < self.now.state.plain.opened }
-        requires flags { flags ≡ flags_of (side_at self.now.state.plain side) }
+        requires space { space ≡ read_space (links_in self.now.state) side }
         ensures { result ≡ read_room self.now.state side }
     {
-        if !self.may_read(side, flags) {
+        if space == 0 {
             return 0;
         }
-        let mark = self.ctl.sides.read_mark(side) as usize;
-        let room = mark.saturating_sub(self.ctl.sides.input_len(side));
         self.ctl
-            .within_rates(side, Dir::Read, room.min(MOST_AT_ONCE))
+            .within_rates(side, Dir::Read, space.min(MOST_AT_ONCE))
     }
 
-    /// How many bytes may be given to the end of a side of which this is so.
-    fn room_to_write(&self, side: SideId, flags: SideFlags) -> usize
+    /// How many bytes may be given to the end of a side for which so many wait.
+    fn room_to_write(&self, side: SideId, space: usize) -> usize
         requires opened { side.link < self.now.state.plain.opened }
-        requires flags { flags ≡ flags_of (side_at self.now.state.plain side) }
+        requires space { space ≡ write_space (links_in self.now.state) side }
         ensures { result ≡ write_room self.now.state side }
     {
-        let may_write = flags.live
-            && !flags.connecting
-            && flags.writes
-            && !flags.failed
-            && !flags.write_ended;
-        if !may_write {
+        if space == 0 {
             return 0;
         }
-        let waiting = self.ctl.sides.waiting_for(side).len();
         self.ctl
-            .within_rates(side, Dir::Write, waiting.min(MOST_AT_ONCE))
+            .within_rates(side, Dir::Write, space.min(MOST_AT_ONCE))
+    }
+
+    /// Whether a side with this space wants to be written, or to be told that it is connected.
+    fn is_to_write(&self, side: SideId, space: Space) -> bool
+        requires opened { side.link < self.now.state.plain.opened }
+        requires space { space ≡ space_of (links_in self.now.state) side }
+        ensures { result ≡ wants self.now.state side Write }
+    {
+        self.room_to_write(side, space.write) > 0 || space.connecting
     }
 
     /// How many bytes may be read from the side's end now, at most 16,384 and what its limit and its group leave. Constant; takes no
@@ -83,7 +63,7 @@ impl Relay {
         requires { side.link < self.now.state.plain.opened }
         ensures { result ≡ read_room self.now.state side }
     {
-        self.room_to_read(side, self.ctl.sides.flags(side))
+        self.room_to_read(side, self.ctl.sides.space(side).read)
     }
 
     /// How many bytes may be given to the side's end now, at most 16,384 and what its limit and its group leave. Constant; takes no
@@ -92,7 +72,7 @@ impl Relay {
         requires { side.link < self.now.state.plain.opened }
         ensures { result ≡ write_room self.now.state side }
     {
-        self.room_to_write(side, self.ctl.sides.flags(side))
+        self.room_to_write(side, self.ctl.sides.space(side).write)
     }
 
     /// The bytes that are given to the side's end now: as many as there is room for. Constant; takes no memory.
@@ -116,10 +96,10 @@ impl Relay {
         ensures read { result.read ≡ wants self.now.state side Read }
         ensures write { result.write ≡ wants self.now.state side Write }
     {
-        let flags = self.ctl.sides.flags(side);
+        let space = self.ctl.sides.space(side);
         Wants {
-            read: self.room_to_read(side, flags) > 0,
-            write: self.room_to_write(side, flags) > 0 || awaits_connection(flags),
+            read: self.room_to_read(side, space.read) > 0,
+            write: self.is_to_write(side, space),
         }
     }
 
@@ -136,7 +116,6 @@ impl Relay {
         requires { side.link < self.now.state.plain.opened }
         ensures { result ≡ wants self.now.state side Write }
     {
-        let flags = self.ctl.sides.flags(side);
-        self.room_to_write(side, flags) > 0 || awaits_connection(flags)
+        self.is_to_write(side, self.ctl.sides.space(side))
     }
 }

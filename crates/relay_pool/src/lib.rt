@@ -17,6 +17,8 @@ mod pass;
 mod pool;
 mod questions;
 mod serve;
+mod space;
 mod stay;
 
 pub use pool::LinkPool;
+pub use space::Space;
