@@ -467,7 +467,7 @@ async def slow(program, rng, times):
             fail('behind a pause other bytes come')
     await sending
     pages = relay.pages()
-    if pages > 300 * times:
+    if pages > 450 * times:
         fail(f'{times} pauses of a reader cost {pages} pages')
     far_writer.close()
     writer.close()
