@@ -12,7 +12,7 @@ use Rattle.ev_types.specs.Sides.{peer}
 use Rattle.filter_model.specs.Filter.{Filter, filter_of}
 use Rattle.relay_model.specs.Flow.{raw_input, input, output, raw_output}
 use Rattle.relay_model.specs.Settings.{Settings}
-use Rattle.relay_model.specs.Plain.{Plain, side_at, flow_at, all_sides}
+use Rattle.relay_model.specs.Plain.{Plain, PlainSide, side_at, flow_at, all_sides}
 use Rattle.relay_model.specs.Rates.{standing_level}
 use Rattle.relay_model.specs.Groups.{members, share_among}
 use Rattle.relay_model.specs.Past.{Past}
@@ -87,13 +87,19 @@ at_most (Some most) n = min most n
 abbrev pub within_rates : Settings → Past → Plain → SideId → Dir → ℕ → ℕ
 within_rates g p s e d n = at_most (share g p s e d) (at_most (allowance p s e d) n)
 
--- It is live, connected, enabled for reading, neither ended nor failed, and its peer is live.
-abbrev pub may_read : Plain → SideId → Bool
-may_read s e = let x = side_at s e in x.live && not x.connecting && x.reads && not x.ended && not x.failed && (side_at s (peer e)).live
+-- A side may be read: it is live, connected, enabled for reading, neither ended nor failed, and its peer is live.
+abbrev pub is_readable : PlainSide → PlainSide → Bool
+is_readable x other = x.live && not x.connecting && x.reads && not x.ended && not x.failed && other.live
 
--- It is live, connected, enabled for writing, not failed, and its writing was not ended.
+-- It may be written: it is live, connected, enabled for writing, not failed, and its writing was not ended.
+abbrev pub is_writable : PlainSide → Bool
+is_writable x = x.live && not x.connecting && x.writes && not x.failed && not x.write_ended
+
+abbrev pub may_read : Plain → SideId → Bool
+may_read s e = is_readable (side_at s e) (side_at s (peer e))
+
 abbrev pub may_write : Plain → SideId → Bool
-may_write s e = let x = side_at s e in x.live && not x.connecting && x.writes && not x.failed && not x.write_ended
+may_write s e = is_writable (side_at s e)
 
 -- how many bytes it may read now
 abbrev pub read_room : Settings → Past → Plain → SideId → ℕ

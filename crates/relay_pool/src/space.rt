@@ -1,8 +1,10 @@
 // How far the ends of sides may be read and written, whatever limits and groups leave them.
 ghost use Rattle.std.specs.Prelude.{◌≡◌, ◌<◌};
+ghost use Rattle.ev_types.specs.Sides.{peer};
+ghost use Rattle.relay_model.specs.Rooms.{is_readable};
 ghost use Rattle.relay_sides.specs.Links.{side_at};
 ghost use Rattle.relay_sides.specs.SideView.{flags_of};
-ghost use Rattle.relay_pool.specs.Space.{is_readable, is_writable, read_space, write_space, space_of};
+ghost use Rattle.relay_pool.specs.Space.{read_space, write_space, space_of};
 
 use crate::bay::bay;
 use crate::pool::LinkPool;
@@ -26,7 +28,7 @@ pub struct Space {
 fn is_readable(sides: &Sides, side: SideId, flags: SideFlags) -> bool
     requires opened { side.link < sides.now.links.opened }
     requires flags { flags ≡ flags_of (side_at sides.now.links side) }
-    ensures { result ≡ is_readable sides.now.links side }
+    ensures { result ≡ is_readable (side_at sides.now.links side) (side_at sides.now.links (peer side)) }
 {
     flags.live
         && !flags.connecting

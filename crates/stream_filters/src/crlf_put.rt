@@ -5,11 +5,8 @@ ghost use Rattle.filter_model.specs.Filter.{crlf_after};
 ghost use Rattle.filter_model.specs.FilterRun.{adds};
 
 use crate::crlf_lanes::write_crlf;
-use crate::line_end::{CR, LF};
+use crate::line_end::{BLOCK, CR, LF};
 use crate::put::{put, put_byte};
-
-/// How many bytes are turned at once at most.
-const BLOCK: usize = 512;
 
 /// Appends what the first byte makes.
 fn put_first(last: Option<u8>, byte: u8, dst: &mut Vec<u8>)

@@ -3,11 +3,8 @@ ghost use Rattle.std.specs.Prelude.{◌≡◌, ◌≤◌, ◌+◌, ◌%◌, ◌+
 ghost use Rattle.filter_model.specs.Filter.{to_lf};
 
 use crate::lf_lanes::write_lf;
-use crate::line_end::CR;
+use crate::line_end::{BLOCK, CR};
 use crate::put::{put, put_byte};
-
-/// How many bytes are turned at once at most.
-const BLOCK: usize = 512;
 
 /// Appends what sixteens of bytes and one behind them make. That one tells of the last before it, and is left out where it is CR.
 pub(crate) fn put_lf(src: &[u8], dst: &mut Vec<u8>)
