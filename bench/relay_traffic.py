@@ -11,6 +11,7 @@ Stages, each over a relay of its own:
   address   it listens at the address that it was given and at no other, connects to that of the target, and waits without the processor
   many      1,100 links, one after the other, each to the target, with bytes of its own both ways; one that is over holds at most 1,000 bytes
   halves    1 MiB each way, the second one sent only once the first one and its end came, in both orders
+  whole     messages that come in whole reads are handed on at once, and wait for no acknowledgement
   starved   with few descriptors it ends at once and says so, or it serves
   idle      links that moved 64 KiB each way and are idle hold at most 2,400 bytes each, and cost no processor
   stopped   a reader that stops for seconds: memory stays within 3.5 times the hold mark, the processor is idle, then all arrives
@@ -345,6 +346,33 @@ async def halves(program, rng, size):
     return f'{size / MIB:.0f} MiB each way, twice'
 
 
+async def whole(program, rng, size, trips):
+    """A message that the system keeps back for more to follow shows as 40 ms each way."""
+    async def answer(reader, writer):
+        try:
+            while True:
+                writer.write(await reader.readexactly(size))
+        except asyncio.IncompleteReadError:
+            writer.close()
+
+    server = await asyncio.start_server(answer, '127.0.0.1', 0)
+    relay = Relay(program, server.sockets[0].getsockname()[1], 1)
+    reader, writer = await asyncio.open_connection('127.0.0.1', relay.port)
+    data, took = rng.randbytes(size), []
+    for _ in range(trips):
+        began = time.time()
+        writer.write(data)
+        if await reader.readexactly(size) != data:
+            fail('a message comes back with other bytes')
+        took.append(time.time() - began)
+    middle = sorted(took)[trips // 2]
+    if middle > .03:
+        fail(f'a message of {size} bytes takes {1000 * middle:.0f} ms there and back')
+    writer.close()
+    await asyncio.to_thread(relay.report)
+    return f'{trips} messages of {size} bytes, {1000 * middle:.2f} ms there and back'
+
+
 async def starved(program):
     """With each number of descriptors: an open fault, with its line, or a link that is served. The least that serves is told."""
     least = None
@@ -555,6 +583,7 @@ async def main():
         ('address', address(program, 1)),
         ('many', many(program, rng, 1100)),
         ('halves', halves(program, rng, MIB)),
+        ('whole', whole(program, rng, 32_768, 30)),
         ('starved', starved(program)),
         ('idle', idle(program, rng, 450, 65536, 1)),
         ('stopped', stopped(program, rng, (8 if quick else 64) * MIB, 1 if quick else 5, ())),

@@ -18,7 +18,9 @@ use Rattle.mio_port.specs.declared.end.Connection.{Connection}
 use Rattle.mio_port.specs.declared.end.Connection.TheVariants as connection
 use Rattle.mio_port.specs.declared.end.End.{End}
 use Rattle.mio_port.specs.declared.socket_call.SocketCall.TheVariants as call
+use Rattle.mio_port.specs.EndPlaces.{undelayed_beside}
 use Rattle.mio_port.specs.OneEnd.{faulty, fresh, read_end, written_end, checked_end}
+use Rattle.mio_port.specs.ReadTurns.{other_end}
 use Rattle.mio_port.specs.Sockets.{first_calls}
 
 -- One of these changes was made.
@@ -35,14 +37,15 @@ ReadLeft into read.NotYet old new =
 ReadLeft into read.Failed old new = new ≡ read_end old attempt.Failed into
 
 -- The end behind one write of these bytes to its connection, by the answer: one that took them all leaves it ready, and it isn't behind. A
--- write that took none failed.
-abbrev pub WriteLeft : List ℕ → WriteAnswer → End → End → Type 0
-WriteLeft from (write.Took n) old new = new ≡ written_end old (attempt.Moved n) from
-WriteLeft from write.NotYet old new =
-    OneOf (written_end old attempt.WouldBlock from) (written_end old attempt.Interrupted from) (written_end old attempt.Absent from) new
-WriteLeft from write.Failed old new =
-    (new ≡ written_end old (attempt.Moved 0) from) ⊎ (new ≡ written_end old attempt.Failed from)
-WriteLeft from write.NoMemory old new = ⊥
+-- write that took none failed. It may be kept back where more follows.
+abbrev pub WriteLeft : Bool → List ℕ → WriteAnswer → End → End → Type 0
+WriteLeft more from (write.Took n) old new = new ≡ written_end more old (attempt.Moved n) from
+WriteLeft more from write.NotYet old new =
+    OneOf (written_end more old attempt.WouldBlock from) (written_end more old attempt.Interrupted from)
+    (written_end more old attempt.Absent from) new
+WriteLeft more from write.Failed old new =
+    (new ≡ written_end more old (attempt.Moved 0) from) ⊎ (new ≡ written_end more old attempt.Failed from)
+WriteLeft more from write.NoMemory old new = ⊥
 
 -- The end behind one check of its connection, by the answer: one that failed drops the socket.
 abbrev pub CheckLeft : ConnAnswer → End → End → Type 0
@@ -67,6 +70,14 @@ LeftAt left (Some old) (Some new) = left old new
 pub record PlaceLeft (old new : List (Option End)) (place : ℕ) (left : End → End → Type 0) : Type 0 where
   pub own : LeftAt left (slice_index_or old place None) (slice_index_or new place None)
   pub others : (n : ℕ) → n ≢ place → slice_index_or new n None ≡ slice_index_or old n None
+
+-- The end at one place was left so. But where its last read didn't fill its room, the system keeps nothing back of what is written to its
+-- peer. Every other place is as it was.
+pub record EndAndPeerLeft (old new : List (Option End)) (place : ℕ) (left : Option End → Option End → Type 0) : Type 0 where
+  pub own : left (slice_index_or old place None) (slice_index_or new place None)
+  pub peer : slice_index_or new (other_end place) None
+      ≡ undelayed_beside (slice_index_or new place None) (slice_index_or old (other_end place) None)
+  pub others : (n : ℕ) → n ≢ place → n ≢ other_end place → slice_index_or new n None ≡ slice_index_or old n None
 
 abbrev pub AllHeard : List (Option End) → List (Option End) → Type 0
 AllHeard old new = (n : ℕ) → LeftAt Heard (slice_index_or old n None) (slice_index_or new n None)

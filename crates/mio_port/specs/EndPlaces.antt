@@ -1,5 +1,5 @@
 -- The counts of faults of all ends, which wants the ends are ready for, and which end of writing is pending.
-use Rattle.std.specs.Prelude.{◌≡◌, ◌≢◌, ◌==◌, ℕ, Bool, true, false, not, ◌&&◌, ◌||◌, List, map}
+use Rattle.std.specs.Prelude.{◌≡◌, ◌≢◌, ◌==◌, ℕ, Bool, true, false, not, ◌&&◌, ◌||◌, if◌then◌else◌, List, map}
 use Rattle.std.specs.Prelude.{Option, Some, None, slice_index_or, option_map}
 use Rattle.ev_port.specs.FaultCounts.{Counted}
 use Rattle.ev_types.specs.declared.side.Side.TheVariants.{In, Out}
@@ -7,7 +7,7 @@ use Rattle.ev_types.specs.declared.side.SideId.{SideId}
 use Rattle.ev_types.specs.Sides.{number}
 use Rattle.ev_port.specs.declared.port.Want.{Want}
 use Rattle.mio_port.specs.declared.end.End.{End}
-use Rattle.mio_port.specs.OneEnd.{handed_on_end}
+use Rattle.mio_port.specs.OneEnd.{handed_on_end, undelayed_end}
 
 -- an end that isn't there met no fault
 abbrev pub faults_of : Option End → ℕ
@@ -74,10 +74,33 @@ abbrev pub came_short : Option End → Bool
 came_short None = false
 came_short (Some e) = e.came_short
 
+-- its last read filled the room that it was given
+abbrev pub is_filled : Option End → Bool
+is_filled None = false
+is_filled (Some e) = e.filled
+
+-- the system may keep its short writes back
+abbrev pub is_delayed : Option End → Bool
+is_delayed None = false
+is_delayed (Some e) = e.delayed
+
+-- an end beside its peer: where the peer's last read didn't fill its room, nothing is kept back
+abbrev pub undelayed_beside : Option End → Option End → Option End
+undelayed_beside None place = place
+undelayed_beside (Some peer) place = if peer.filled then place else option_map undelayed_end place
+
 -- its writing is to be ended, and the system was not told yet
 abbrev pub is_ending : Option End → Bool
 is_ending None = false
 is_ending (Some e) = e.ending
+
+-- what each end is ready for, its count of faults, and what is pending of it, stay
+pub record AlikeBesideDelay (old new : List (Option End)) : Type 0 where
+  pub prompt : (n : ℕ) → is_prompt (slice_index_or new n None) ≡ is_prompt (slice_index_or old n None)
+  pub bulky : (n : ℕ) → is_bulky (slice_index_or new n None) ≡ is_bulky (slice_index_or old n None)
+  pub writable : (n : ℕ) → is_write_ready (slice_index_or new n None) ≡ is_write_ready (slice_index_or old n None)
+  pub ending : (n : ℕ) → is_ending (slice_index_or new n None) ≡ is_ending (slice_index_or old n None)
+  pub faults : CountsStay old new
 
 -- of at most one number: this is it
 abbrev pub is_at_number : Option ℕ → ℕ → Bool

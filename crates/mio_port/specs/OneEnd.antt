@@ -24,6 +24,7 @@ fresh by write_ready = record {
   filled = false;
   bulky = false;
   came_short = false;
+  delayed = false;
   ending = false;
   faults = 0;
 }
@@ -83,9 +84,21 @@ after_write e attempt.Absent offered = e
 abbrev pub handed_on_end : End → End
 handed_on_end e = if e.ending then record (told_end e (call.EndedWriting, [])) { ending = false } else e
 
--- one write of these bytes was made, after an end of writing that was pending
-abbrev pub written_end : End → Attempt → List ℕ → End
-written_end e a from = after_write (told_end (handed_on_end e) (call.Write a, from)) a (length from)
+-- the system may keep its short writes back, and was told so once
+abbrev pub delayed_end : End → End
+delayed_end e = if e.delayed then e else record (told_end e (call.Delayed, [])) { delayed = true }
+
+-- it keeps none back, and was told so if it might have before
+abbrev pub undelayed_end : End → End
+undelayed_end e = if e.delayed then record (told_end e (call.Undelayed, [])) { delayed = false } else e
+
+abbrev pub delayed_if : Bool → End → End
+delayed_if true e = delayed_end e
+delayed_if false e = undelayed_end e
+
+-- one write of these bytes was made, after an end of writing that was pending; it may be kept back where more follows
+abbrev pub written_end : Bool → End → Attempt → List ℕ → End
+written_end more e a from = after_write (told_end (delayed_if more (handed_on_end e)) (call.Write a, from)) a (length from)
 
 -- an early check waits for the next report, and a failed one drops the socket
 abbrev pub after_check : End → Check → End
@@ -118,5 +131,6 @@ closed_end e = record e {
   filled = false;
   bulky = false;
   came_short = false;
+  delayed = false;
   ending = false;
 }

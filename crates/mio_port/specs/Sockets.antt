@@ -12,7 +12,7 @@ use Rattle.mio_port.specs.SocketCalls.{CallMade}
 abbrev pub with_call : Socket → CallMade → Socket
 with_call s x = record s { log = record { calls = x ∷ s.log.calls } }
 
--- it was asked that short writes aren't held back, and that it is reported under this number
+-- it was asked that short writes aren't kept back, and that it is reported under this number
 abbrev pub watched : Socket → ℕ → Socket
 watched s n = with_call (with_call s (call.Undelayed, [])) (call.Watched n, [])
 

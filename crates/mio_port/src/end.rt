@@ -6,7 +6,8 @@ ghost use Rattle.mio_port.specs.Attempts.{AttemptBy, CheckBy, read_answer, write
 ghost use Rattle.mio_port.specs.EndAnswers.{ReadBy, WrittenBy, CheckedBy};
 ghost use Rattle.mio_port.specs.EndLeft.{ReadLeft, WriteLeft, CheckLeft};
 ghost use Rattle.mio_port.specs.OneEnd.{fresh, told, after_read, after_write, after_check};
-ghost use Rattle.mio_port.specs.OneEnd.{closed_end, counted_read, ended_end, handed_on_end, has_socket, noticed_end};
+ghost use Rattle.mio_port.specs.OneEnd.{closed_end, counted_read, delayed_end, delayed_if, ended_end, handed_on_end, has_socket, noticed_end};
+ghost use Rattle.mio_port.specs.OneEnd.{undelayed_end};
 
 use crate::attempt::Attempt;
 use crate::check::Check;
@@ -28,8 +29,8 @@ pub(crate) enum Connection {
 /// One end. The bits say that the kernel reported it ready for a way and that no call has found otherwise since; the end
 /// is hung up once the kernel told that the peer sends no more, or of an error. It is bulky if one of its last two reads filled
 /// the room that it was given: what is sent in bulk comes in bursts, at the end of which one read comes short. Its last write came
-/// short if it took less than it was given, or would have blocked. It is ending while its writing is to be ended and the system was
-/// not told yet.
+/// short if it took less than it was given, or would have blocked. It is delayed while the system may keep a short write back for more to
+/// follow. It is ending while its writing is to be ended and the system was not told yet.
 ///
 /// Own.
 #[derive(Drop)]
@@ -41,6 +42,7 @@ pub(crate) struct End {
     filled: bool,
     bulky: bool,
     came_short: bool,
+    delayed: bool,
     ending: bool,
     faults: u64,
 }
@@ -87,6 +89,22 @@ impl Connection {
         }
     }
 
+    fn delay(&mut self)
+        ensures { self.new ≡ told self.old (SocketCall.Delayed, []) }
+    {
+        if let Connection::Open(socket) = self {
+            socket.delay();
+        }
+    }
+
+    fn undelay(&mut self)
+        ensures { self.new ≡ told self.old (SocketCall.Undelayed, []) }
+    {
+        if let Connection::Open(socket) = self {
+            socket.undelay();
+        }
+    }
+
     fn has_socket(&self) -> bool
         ensures { result ≡ has_socket self.now }
     {
@@ -107,6 +125,7 @@ impl End {
             filled: false,
             bulky: false,
             came_short: false,
+            delayed: false,
             ending: false,
             faults: 0,
         }
@@ -124,6 +143,7 @@ impl End {
             filled: false,
             bulky: false,
             came_short: false,
+            delayed: false,
             ending: false,
             faults: 0,
         }
@@ -151,6 +171,43 @@ impl End {
         ensures { result ≡ self.now.came_short }
     {
         self.came_short
+    }
+
+    /// Its last read filled the room that it was given, so that more is likely to come.
+    pub(crate) fn is_filled(&self) -> bool
+        ensures { result ≡ self.now.filled }
+    {
+        self.filled
+    }
+
+    /// The system may keep its short writes back from now on. It is told once.
+    fn delay(&mut self)
+        ensures { self.new ≡ delayed_end self.old }
+    {
+        if !self.delayed {
+            self.connection.delay();
+            self.delayed = true;
+        }
+    }
+
+    /// The system keeps none back from now on, and what was kept back goes. It is told where that wasn't so.
+    pub(crate) fn undelay(&mut self)
+        ensures { self.new ≡ undelayed_end self.old }
+    {
+        if self.delayed {
+            self.connection.undelay();
+            self.delayed = false;
+        }
+    }
+
+    fn delay_if(&mut self, more_follows: bool)
+        ensures { self.new ≡ delayed_if more_follows self.old }
+    {
+        if more_follows {
+            self.delay();
+        } else {
+            self.undelay();
+        }
     }
 
     /// An error and a hang-up make it ready both ways.
@@ -212,16 +269,18 @@ impl End {
         }
     }
 
-    pub(crate) fn write(&mut self, from: &[u8]) -> WriteAnswer
+    /// Where more is likely to follow the system may keep a short write back.
+    pub(crate) fn write(&mut self, from: &[u8], more_follows: bool) -> WriteAnswer
         requires { 0 < length from.now }
         ensures within { WriteWithin result (length from.now) }
         ensures cause { Counted self.old.faults self.new.faults (is_failed_write result) }
         ensures other_way { self.new.read_ready ≡ self.old.read_ready }
         ensures all_handed_on { self.new.ending ≡ false }
         ensures by { WrittenBy (Some self.old.connection) result }
-        ensures left { WriteLeft from.now result self.old self.new }
+        ensures left { WriteLeft more_follows from.now result self.old self.new }
     {
         self.hand_on();
+        self.delay_if(more_follows);
         let attempt = self.connection.write(from);
         self.take_write(attempt, from.len())
     }
@@ -315,6 +374,7 @@ impl End {
         self.filled = false;
         self.bulky = false;
         self.came_short = false;
+        self.delayed = false;
         self.ending = false;
     }
 }

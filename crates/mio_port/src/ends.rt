@@ -1,25 +1,27 @@
 // The ends of all links, by their numbers, the numbers of those that are ready, and that of the one whose end of writing is
 // pending. An end stays once it is made, and its count of faults with it.
-ghost use Rattle.std.specs.Prelude.{◌≡◌, ◌<◌, ◌≤◌, ◌==◌, ◌+◌, ◌*◌, ℕ, [], None, Some, length, map, filter, slice_index_or, vec_len};
-ghost use Rattle.std.specs.Prelude.{false, true, not, ◌&&◌, if◌then◌else◌, IsOk, OnOk};
-ghost use Rattle.std.specs.List.{list_any};
-ghost use Rattle.ev_port.specs.Table.{RowsStay, is_marked, named};
+ghost use Rattle.std.specs.Prelude.{◌≡◌, ◌≢◌, ◌<◌, ◌≤◌, ◌==◌, ◌+◌, ◌*◌, ℕ, [], None, Some, length, map, slice_index_or, vec_len};
+ghost use Rattle.std.specs.Prelude.{false, true, if◌then◌else◌, IsOk, OnOk, option_map};
 ghost use Rattle.ev_port.specs.Ends.{ReadWithin, is_failed_read, WriteWithin, is_failed_write, is_failed_conn};
 ghost use Rattle.ev_types.specs.Sides.{number};
 ghost use Rattle.mio_port.specs.EndAnswers.{connection_at, ReadBy, WrittenBy, CheckedBy};
-ghost use Rattle.mio_port.specs.EndLeft.{PlaceLeft, ReadLeft, WriteLeft, CheckLeft};
+ghost use Rattle.mio_port.specs.EndLeft.{CheckLeft, EndAndPeerLeft, LeftAt, PlaceLeft, ReadLeft, WriteLeft};
 ghost use Rattle.mio_port.specs.PortCalls.{OthersStay};
 ghost use Rattle.mio_port.specs.OneEnd.{noticed_end, ended_end, closed_end};
 ghost use Rattle.mio_port.specs.EndPlaces.{CountsStay, CountsAt, PlacesStay, PlaceWent, all_handed_on, holds, is_at_number};
-ghost use Rattle.mio_port.specs.EndPlaces.{is_ending, is_made};
-ghost use Rattle.mio_port.specs.EndPlaces.{came_short, is_bulky, is_prompt, is_write_ready, can_read, can_write, wants_ready};
-ghost use Rattle.mio_port.specs.EndPlaces.{marked, unmarked};
-ghost use Rattle.mio_port.specs.ReadTurns.{ListedInTurn, drains_now, marked_with, other_end};
+ghost use Rattle.mio_port.specs.EndPlaces.{AlikeBesideDelay, is_ending, is_filled, is_made, undelayed_beside};
+ghost use Rattle.mio_port.specs.EndPlaces.{is_bulky, is_prompt, is_write_ready, unmarked};
+ghost use Rattle.mio_port.specs.ReadTurns.{other_end};
+
+mod marking;
 
 use crate::end::End;
-use crate::place::{check_at, close_at, close_write_at, hand_on_at, notice_at, read_at, write_at};
-use crate::turn::{Turn, other_end, wants_at};
-use ev_port::{Want, WantTable};
+use crate::place::{
+    check_at, close_at, close_write_at, hand_on_at, notice_at, read_at, undelay_at, write_at,
+};
+use crate::ready::keep_up;
+use crate::turn::other_end;
+use ev_port::Want;
 use ev_types::{ConnAnswer, ReadAnswer, Side, SideId, WriteAnswer};
 use mio::event::Event;
 use number_set::NumberSet;
@@ -67,56 +69,32 @@ pub(crate) fn out_end(link: u32) -> SideId
     }
 }
 
-// The sets of the numbers that are ready
-
-// Puts a number into a set or takes it out, where it isn't so already, which costs one look.
-fn set_to(set: &mut NumberSet, number: usize, is_in: bool)
-    requires { number < set.old.len }
-    ensures len { set.new.len ≡ set.old.len }
-    ensures has { (n : ℕ) → set.new.has n ≡ (if n == number then is_in else set.old.has n) }
+// The last read of the end with this number filled the room that it was given, so that more is likely to come.
+fn is_filled(ends: &[Option<End>], number: usize) -> bool
+    ensures { result ≡ is_filled (slice_index_or ends.now number None) }
 {
-    if set.contains(number) != is_in {
-        set.put(number, is_in);
+    match ends.get(number) {
+        Some(Some(end)) => end.is_filled(),
+        _ => false,
     }
 }
 
-// An end may have changed: each set has its number where the end is ready now.
-fn keep_up(
-    ends: &[Option<End>],
-    number: usize,
-    prompt: &mut NumberSet,
-    bulky: &mut NumberSet,
-    writable: &mut NumberSet,
-)
-    requires prompt_room { number < prompt.old.len }
-    requires bulky_room { number < bulky.old.len }
-    requires write_room { number < writable.old.len }
-    ensures prompt_len { prompt.new.len ≡ prompt.old.len }
-    ensures bulky_len { bulky.new.len ≡ bulky.old.len }
-    ensures write_len { writable.new.len ≡ writable.old.len }
-    ensures prompts { (n : ℕ) → prompt.new.has n
-        ≡ (if n == number then is_prompt (slice_index_or ends.now number None) else prompt.old.has n) }
-    ensures bulks { (n : ℕ) → bulky.new.has n
-        ≡ (if n == number then is_bulky (slice_index_or ends.now number None) else bulky.old.has n) }
-    ensures writes { (n : ℕ) → writable.new.has n
-        ≡ (if n == number then is_write_ready (slice_index_or ends.now number None) else writable.old.has n) }
+// Where the last read of the end with this number didn't fill its room, nothing is kept back of what is written to its peer.
+fn undelay_peer(ends: &mut Vec<Option<End>>, number: usize)
+    ensures peer { slice_index_or ends.new.items (other_end number) None
+        ≡ undelayed_beside (slice_index_or ends.old.items number None) (slice_index_or ends.old.items (other_end number) None) }
+    ensures others { (n : ℕ) → n ≢ other_end number → slice_index_or ends.new.items n None ≡ slice_index_or ends.old.items n None }
+    ensures len { vec_len ends.new ≡ vec_len ends.old }
+    ensures alike { AlikeBesideDelay ends.old.items ends.new.items }
 {
-    let (can_read, is_bulky, can_write) = match ends.get(number) {
-        Some(Some(end)) => (end.is_read_ready(), end.is_bulky(), end.is_write_ready()),
-        _ => (false, false, false),
+    let Some(Some(end)) = ends.get(number) else {
+        return;
     };
-    set_to(prompt, number, can_read && !is_bulky);
-    set_to(bulky, number, can_read && is_bulky);
-    set_to(writable, number, can_write);
-}
-
-// The last write to the end with this number took less than it was given, or would have blocked.
-fn came_short(ends: &[Option<End>], number: usize) -> bool
-    ensures { result ≡ came_short (slice_index_or ends.now number None) }
-{
-    match ends.get(number) {
-        Some(Some(end)) => end.came_short(),
-        _ => false,
+    if end.is_filled() {
+        return;
+    }
+    if let Some(place) = ends.get_mut(other_end(number)) {
+        undelay_at(place);
     }
 }
 
@@ -127,20 +105,6 @@ fn settle(pending: &mut Option<usize>, number: usize)
     if *pending == Some(number) {
         *pending = None;
     }
-}
-
-// Lists what can be done, as if the end with this number could be read too.
-fn mark_with(prompt: &mut NumberSet, writable: &NumberSet, who: usize, wants: &mut WantTable)
-    requires { who < prompt.old.len }
-    ensures len { prompt.new.len ≡ prompt.old.len }
-    ensures has { (n : ℕ) → prompt.new.has n ≡ prompt.old.has n }
-    ensures rows { RowsStay wants.old wants.new }
-    ensures list { wants.new.list ≡ filter is_marked (map (marked_with prompt.old writable.now who) (named wants.old)) }
-{
-    let was = prompt.contains(who);
-    prompt.insert(who);
-    wants.mark_ready(prompt, writable);
-    prompt.put(who, was);
 }
 
 impl Ends {
@@ -239,96 +203,8 @@ impl Ends {
         }
     }
 
-    fn can_read(&self, want: Want) -> bool
-        ensures { result ≡ can_read self.now.ends.items want }
-    {
-        let number = want.side.number();
-        want.read && (self.prompt.contains(number) || self.bulky.contains(number))
-    }
-
-    fn can_write(&self, want: Want) -> bool
-        ensures { result ≡ can_write self.now.ends.items want }
-    {
-        want.write && self.writable.contains(want.side.number())
-    }
-
-    /// Something that is wanted can be done.
-    pub(crate) fn is_any_ready(&self, wants: &[Want]) -> bool
-        ensures { result ≡ list_any (wants_ready self.now.ends.items) wants.now }
-    {
-        wants
-            .iter()
-            .any(|want| self.can_read(*want) || self.can_write(*want))
-    }
-
-    /// Marks what is wanted and can be done, and nothing else.
-    pub(crate) fn mark(&self, wants: &mut [Want])
-        ensures { wants.new ≡ map (marked self.now.ends.items) wants.old }
-    {
-        for want in wants.iter_mut() {
-            *want = self.marked(*want);
-        }
-    }
-
-    /// Something that a table wants can be done. Only the sets are looked at, 64 numbers at a time.
-    pub(crate) fn is_any_of_table_ready(&self, wants: &WantTable) -> bool
-        ensures { result ≡ list_any (wants_ready self.now.ends.items) (named wants.now) }
-    {
-        wants.is_any_ready(&self.prompt, &self.writable)
-            || wants.is_any_ready(&self.bulky, &self.writable)
-    }
-
-    /// Lists in a table what it wants and can be done, with the marks; of the bulky ends only that whose turn it is by now, and
-    /// not while its peer drains and can be written. Only the sets are looked at, and that peer.
-    pub(crate) fn mark_table(&mut self, turn: Turn, wants: &mut WantTable) -> Turn
-        ensures stays { self.new.ends ≡ self.old.ends }
-        ensures rows { RowsStay wants.old wants.new }
-        ensures listed { ListedInTurn self.old.ends.items turn result wants.old wants.new }
-    {
-        let mut next = turn.next(wants, &self.bulky);
-        next.peer_drains = self.drains_now(wants, turn, next.who);
-        if self.is_read_first(next) {
-            mark_with(&mut self.prompt, &self.writable, next.who, wants);
-        } else {
-            wants.mark_ready(&self.prompt, &self.writable);
-        }
-        next
-    }
-
-    // Whether the peer of the end with this number drains, whose turn it is by now. What was said of the peer at the poll before
-    // counts where the turn stayed.
-    fn drains_now(&self, wants: &WantTable, before: Turn, who: usize) -> bool
-        ensures { result ≡ drains_now wants.now self.now.ends.items before who }
-    {
-        if !self.bulky.contains(who) {
-            return false;
-        }
-        let peer = other_end(who);
-        let (_read, is_waited_for) = wants_at(wants, peer);
-        is_waited_for && (came_short(&self.ends, peer) || (before.peer_drains && before.who == who))
-    }
-
-    // A bulky end that is ready is read in its turn, but not while its peer drains and can be written. A peer that keeps up is given
-    // what was read a turn before, at most one read's worth (16,384 bytes in the relay), and doesn't hold it up: the one is read
-    // and the other written in one turn.
-    fn is_read_first(&self, turn: Turn) -> bool
-        ensures { result ≡ (self.now.bulky.has turn.who && not (turn.peer_drains && self.now.writable.has (other_end turn.who))) }
-    {
-        self.bulky.contains(turn.who)
-            && !(turn.peer_drains && self.writable.contains(other_end(turn.who)))
-    }
-
-    fn marked(&self, want: Want) -> Want
-        ensures { result ≡ marked self.now.ends.items want }
-    {
-        Want {
-            can_read: self.can_read(want),
-            can_write: self.can_write(want),
-            ..want
-        }
-    }
-
-    pub(crate) fn read(&mut self, side: SideId, into: &mut [u8]) -> ReadAnswer
+    // One read of the end.
+    fn read_own(&mut self, side: SideId, into: &mut [u8]) -> ReadAnswer
         requires { 0 < length into.old }
         ensures within { ReadWithin result (length into.new) }
         ensures cause { CountsAt self.old.ends.items self.new.ends.items side (is_failed_read result) }
@@ -350,18 +226,43 @@ impl Ends {
         answer
     }
 
-    pub(crate) fn write(&mut self, side: SideId, from: &[u8]) -> WriteAnswer
+    /// Where it doesn't fill the room that it was given, nothing is kept back any more of what is written to the end's peer.
+    pub(crate) fn read(&mut self, side: SideId, into: &mut [u8]) -> ReadAnswer
+        requires { 0 < length into.old }
+        ensures within { ReadWithin result (length into.new) }
+        ensures cause { CountsAt self.old.ends.items self.new.ends.items side (is_failed_read result) }
+        ensures by { ReadBy (connection_at self.old.ends.items side) result }
+        ensures left { EndAndPeerLeft self.old.ends.items self.new.ends.items (number side) (LeftAt (ReadLeft into.new result)) }
+    {
+        let answer = self.read_own(side, into);
+        self.undelay_peer(side.number());
+        answer
+    }
+
+    // Where the last read of the end with this number didn't fill its room, nothing is kept back of what is written to its peer.
+    fn undelay_peer(&mut self, number: usize)
+        ensures counts { CountsStay self.old.ends.items self.new.ends.items }
+        ensures peer { slice_index_or self.new.ends.items (other_end number) None
+            ≡ undelayed_beside (slice_index_or self.old.ends.items number None) (slice_index_or self.old.ends.items (other_end number) None) }
+        ensures others { (n : ℕ) → n ≢ other_end number → slice_index_or self.new.ends.items n None ≡ slice_index_or self.old.ends.items n None }
+    {
+        undelay_peer(&mut self.ends, number);
+    }
+
+    // One write to the end.
+    fn write_own(&mut self, side: SideId, from: &[u8], more_follows: bool) -> WriteAnswer
         requires { 0 < length from.now }
         ensures within { WriteWithin result (length from.now) }
         ensures cause { CountsAt self.old.ends.items self.new.ends.items side (is_failed_write result) }
         ensures by { WrittenBy (connection_at self.old.ends.items side) result }
-        ensures left { PlaceLeft self.old.ends.items self.new.ends.items (number side) (WriteLeft from.now result) }
+        ensures left { PlaceLeft self.old.ends.items self.new.ends.items (number side)
+            (WriteLeft more_follows from.now result) }
     {
         let number = side.number();
         let Some(place) = self.ends.get_mut(number) else {
             return WriteAnswer::NotYet;
         };
-        let answer = write_at(place, from);
+        let answer = write_at(place, from, more_follows);
         settle(&mut self.pending, number);
         keep_up(
             &self.ends,
@@ -371,6 +272,19 @@ impl Ends {
             &mut self.writable,
         );
         answer
+    }
+
+    /// Where the last read of the end's peer filled its room, the system may keep a short write back, since more is likely to follow.
+    pub(crate) fn write(&mut self, side: SideId, from: &[u8]) -> WriteAnswer
+        requires { 0 < length from.now }
+        ensures within { WriteWithin result (length from.now) }
+        ensures cause { CountsAt self.old.ends.items self.new.ends.items side (is_failed_write result) }
+        ensures by { WrittenBy (connection_at self.old.ends.items side) result }
+        ensures left { PlaceLeft self.old.ends.items self.new.ends.items (number side)
+            (WriteLeft (is_filled (slice_index_or self.old.ends.items (other_end (number side)) None)) from.now result) }
+    {
+        let more_follows = is_filled(&self.ends, other_end(side.number()));
+        self.write_own(side, from, more_follows)
     }
 
     pub(crate) fn check(&mut self, side: SideId) -> ConnAnswer
@@ -429,7 +343,8 @@ impl Ends {
         }
     }
 
-    pub(crate) fn close(&mut self, side: SideId)
+    // The end alone is closed.
+    fn close_own(&mut self, side: SideId)
         ensures counts { CountsStay self.old.ends.items self.new.ends.items }
         ensures went { PlaceWent self.old.ends.items self.new.ends.items (number side) closed_end }
     {
@@ -446,6 +361,15 @@ impl Ends {
             &mut self.bulky,
             &mut self.writable,
         );
+    }
+
+    /// Nothing is kept back any more of what is written to the end's peer.
+    pub(crate) fn close(&mut self, side: SideId)
+        ensures counts { CountsStay self.old.ends.items self.new.ends.items }
+        ensures went { EndAndPeerLeft self.old.ends.items self.new.ends.items (number side) (λ old new. new ≡ option_map closed_end old) }
+    {
+        self.close_own(side);
+        self.undelay_peer(side.number());
     }
 }
 

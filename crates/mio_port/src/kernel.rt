@@ -67,7 +67,7 @@ impl Kernel {
         Ok(listener)
     }
 
-    /// An end that is watched both ways, under its number, and whose short writes aren't held back.
+    /// An end that is watched both ways, under its number, and whose short writes aren't kept back.
     pub(crate) fn end(&self, mut socket: Socket, number: usize) -> io::Result<End>
         ensures { IfOk result (λ end. end ≡ fresh (Connection.Open (watched socket number)) false) }
     {

@@ -11,6 +11,7 @@ mod ends;
 mod kernel;
 mod mio_port;
 mod place;
+mod ready;
 mod scarce;
 mod socket;
 mod socket_call;

@@ -1,7 +1,7 @@
 // The port over real sockets. Its parts keep the ends, the listener, the kernel's reports and the clock; here stands what
 // each call of a port does with them, and which count of faults it raises.
 ghost use Rattle.std.specs.Prelude.{◌≡◌, ◌≢◌, ◌<◌, ◌≤◌, ◌+◌, ◌*◌, ⊤, [], true, false, length, is_none, is_some, None, Some};
-ghost use Rattle.std.specs.Prelude.{MatchResult, OnOk};
+ghost use Rattle.std.specs.Prelude.{MatchResult, OnOk, option_map, slice_index_or};
 ghost use Rattle.std.specs.List.{list_any};
 ghost use Rattle.ev_types.specs.Sides.{number};
 ghost use Rattle.ev_port.specs.Counting.{risen_if};
@@ -18,14 +18,14 @@ ghost use Rattle.ev_port.specs.Ends.{WriteWithin, is_failed_write, write_step, w
 ghost use Rattle.ev_port.specs.Ends.{close_write_step, close_step};
 ghost use Rattle.mio_port.specs.EndAnswers.{connection_at, ReadBy, WrittenBy, CheckedBy};
 ghost use Rattle.mio_port.specs.Acceptor.{shut_acceptor};
-ghost use Rattle.mio_port.specs.EndLeft.{CheckLeft, NewEnds, PlaceLeft, ReadLeft, WriteLeft};
+ghost use Rattle.mio_port.specs.EndLeft.{CheckLeft, EndAndPeerLeft, LeftAt, NewEnds, PlaceLeft, ReadLeft, WriteLeft};
 ghost use Rattle.mio_port.specs.OneEnd.{ended_end, closed_end};
-ghost use Rattle.mio_port.specs.EndPlaces.{PlaceWent, all_handed_on, holds, wants_ready};
+ghost use Rattle.mio_port.specs.EndPlaces.{PlaceWent, all_handed_on, holds, is_filled, wants_ready};
 ghost use Rattle.mio_port.specs.Kernels.{watch_of, HasSpare};
 ghost use Rattle.mio_port.specs.Asking.{PollLooked};
 ghost use Rattle.mio_port.specs.PollLeft.{PollLeft};
 ghost use Rattle.mio_port.specs.PortCalls.{Listens, Marked, Accepts, MadeLink, AcceptorAsked};
-ghost use Rattle.mio_port.specs.ReadTurns.{MarkedTable, SomeMarked};
+ghost use Rattle.mio_port.specs.ReadTurns.{MarkedTable, SomeMarked, other_end};
 ghost use Rattle.mio_port.specs.PortFaults.{IsFaultless, mio_faults, vouches_nothing, waits_untold};
 
 mod linking;
@@ -74,7 +74,8 @@ use std::time::Clock;
 /// a run of links that are numbered in turn.
 ///
 /// Own, over mio's `Poll`, `TcpListener` and `TcpStream`; libevent has it as event2/event.h, `EV_ET`, and event2/listener.h.
-/// Differs: a listener that found no descriptor is left alone for a while, where libevent's reports the error each time.
+/// Differs: a listener that found no descriptor is left alone for a while, where libevent's reports the error each time; and short writes
+/// wait for no acknowledgement but in bulk, where libevent leaves that to who makes the socket.
 #[derive(Drop)]
 pub struct MioPort<'a, R> {
     rt: &'a R,
@@ -176,6 +177,10 @@ impl<'a, R: Net + Clock + AllocGlobal> MioPort<'a, R> {
 /// - `connect_state` is `Failed`, at the end's count, for a connection that was refused or that broke, and stays so.
 /// - `read` and `write` are `NotYet` where they would block or were interrupted, and at an end that was closed or never
 ///   made; a write that takes no byte is `Failed`, as is every other error. No signal comes of a peer that is gone.
+/// - What comes in bulk goes in long segments: where the last read of the other end filled its room, more is likely to follow, and the
+///   system may keep a short write back (Nagle's algorithm). It goes at once when a read of that other end doesn't fill its room, or that
+///   end is closed. Where neither comes, since a limit or a mark stops the reading, it goes once what went before is acknowledged, in 40 ms
+///   at most where the receiver is Linux.
 /// - `stop_accepting` closes the listener: a client that comes from then on is refused, and one that was not accepted yet is
 ///   cut off.
 /// - `close_write` leaves its end pending, if that has a socket, until the next `poll`, `poll_table` or `close_write`, a `write` to
@@ -332,7 +337,7 @@ impl<'a, R: Net + Clock + AllocGlobal> Port for MioPort<'a, R> {
     fn read(&mut self, end: SideId, into: &mut [u8]) -> ReadAnswer
         requires { 0 < length into.old }
         ensures by { ReadBy (connection_at self.old.ends.ends.items end) result }
-        ensures left { PlaceLeft self.old.ends.ends.items self.new.ends.ends.items (number end) (ReadLeft into.new result) }
+        ensures left { EndAndPeerLeft self.old.ends.ends.items self.new.ends.ends.items (number end) (LeftAt (ReadLeft into.new result)) }
         ensures others { self.new ≡ record self.old { ends = self.new.ends } }
 
         // What every port says.
@@ -348,7 +353,8 @@ impl<'a, R: Net + Clock + AllocGlobal> Port for MioPort<'a, R> {
     fn write(&mut self, end: SideId, from: &[u8]) -> WriteAnswer
         requires { 0 < length from.now }
         ensures by { WrittenBy (connection_at self.old.ends.ends.items end) result }
-        ensures left { PlaceLeft self.old.ends.ends.items self.new.ends.ends.items (number end) (WriteLeft from.now result) }
+        ensures left { PlaceLeft self.old.ends.ends.items self.new.ends.ends.items (number end)
+            (WriteLeft (is_filled (slice_index_or self.old.ends.ends.items (other_end (number end)) None)) from.now result) }
         ensures others { self.new ≡ record self.old { ends = self.new.ends } }
 
         // What every port says.
@@ -375,7 +381,8 @@ impl<'a, R: Net + Clock + AllocGlobal> Port for MioPort<'a, R> {
     }
 
     fn close(&mut self, end: SideId)
-        ensures gone { PlaceWent self.old.ends.ends.items self.new.ends.ends.items (number end) closed_end }
+        ensures gone { EndAndPeerLeft self.old.ends.ends.items self.new.ends.ends.items (number end)
+            (λ old new. new ≡ option_map closed_end old) }
         ensures pause { self.new.acceptor.paused_to ≡ None }
         ensures others { self.new ≡ record self.old { ends = self.new.ends; acceptor = record self.old.acceptor { paused_to = None } } }
 

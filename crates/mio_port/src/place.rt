@@ -5,7 +5,7 @@ ghost use Rattle.ev_port.specs.Ends.{ReadWithin, is_failed_read, WriteWithin, is
 ghost use Rattle.mio_port.specs.EndAnswers.{connection_of, ReadBy, WrittenBy, CheckedBy};
 ghost use Rattle.mio_port.specs.EndLeft.{LeftAt, ReadLeft, WriteLeft, CheckLeft};
 ghost use Rattle.mio_port.specs.EndPlaces.{faults_of, is_ending};
-ghost use Rattle.mio_port.specs.OneEnd.{closed_end, ended_end, handed_on_end, noticed_end};
+ghost use Rattle.mio_port.specs.OneEnd.{closed_end, ended_end, handed_on_end, noticed_end, undelayed_end};
 
 use crate::end::End;
 use ev_types::{ConnAnswer, ReadAnswer, WriteAnswer};
@@ -25,16 +25,17 @@ pub(crate) fn read_at(place: &mut Option<End>, into: &mut [u8]) -> ReadAnswer
     }
 }
 
-pub(crate) fn write_at(place: &mut Option<End>, from: &[u8]) -> WriteAnswer
+/// Where more is likely to follow the system may keep a short write back.
+pub(crate) fn write_at(place: &mut Option<End>, from: &[u8], more_follows: bool) -> WriteAnswer
     requires { 0 < length from.now }
     ensures within { WriteWithin result (length from.now) }
     ensures cause { Counted (faults_of place.old) (faults_of place.new) (is_failed_write result) }
     ensures all_handed_on { is_ending place.new ≡ false }
     ensures by { WrittenBy (connection_of place.old) result }
-    ensures left { LeftAt (WriteLeft from.now result) place.old place.new }
+    ensures left { LeftAt (WriteLeft more_follows from.now result) place.old place.new }
 {
     match place {
-        Some(end) => end.write(from),
+        Some(end) => end.write(from, more_follows),
         None => WriteAnswer::NotYet,
     }
 }
@@ -78,6 +79,14 @@ pub(crate) fn hand_on_at(place: &mut Option<End>)
 {
     if let Some(end) = place {
         end.hand_on();
+    }
+}
+
+pub(crate) fn undelay_at(place: &mut Option<End>)
+    ensures { place.new ≡ option_map undelayed_end place.old }
+{
+    if let Some(end) = place {
+        end.undelay();
     }
 }
 

@@ -86,7 +86,15 @@ impl Socket {
         self.log = self.log.then(&plain(call));
     }
 
-    /// Asks that its short writes aren't held back. What the system says to that is ignored.
+    /// Asks that its short writes may be kept back for more to follow. What the system says to that is ignored.
+    pub(crate) fn delay(&mut self)
+        ensures { self.new ≡ with_call self.old (SocketCall.Delayed, []) }
+    {
+        let _ignored = self.stream.set_nodelay(false);
+        self.told(SocketCall::Delayed);
+    }
+
+    /// Asks that its short writes are kept back no longer: what was kept back goes. What the system says to that is ignored.
     pub(crate) fn undelay(&mut self)
         ensures { self.new ≡ with_call self.old (SocketCall.Undelayed, []) }
     {

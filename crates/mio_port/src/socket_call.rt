@@ -4,13 +4,15 @@ use crate::check::Check;
 use std::net::SocketAddr;
 
 /// A call of the system on a socket. `Came` is one that the listener gave, and `Began` one whose connection was begun to an address;
-/// `Undelayed` is the wish that short writes aren't held back, whatever came of it, and `Watched` the number under which it is reported.
+/// `Delayed` is the wish that short writes may be kept back for more to follow (Nagle's algorithm), and `Undelayed` that none is, whatever
+/// came of it; `Watched` is the number under which it is reported.
 ///
 /// Own.
 #[derive(Clone, Copy)]
 pub(crate) enum SocketCall {
     Came,
     Began(SocketAddr),
+    Delayed,
     Undelayed,
     Watched(usize),
     Read(Attempt),
