@@ -75,9 +75,9 @@ came_short None = false
 came_short (Some e) = e.came_short
 
 -- its last read filled the room that it was given
-abbrev pub is_filled : Option End → Bool
-is_filled None = false
-is_filled (Some e) = e.filled
+abbrev pub has_filled : Option End → Bool
+has_filled None = false
+has_filled (Some e) = e.filled
 
 -- the system may keep its short writes back
 abbrev pub is_delayed : Option End → Bool

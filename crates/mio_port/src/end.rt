@@ -6,8 +6,8 @@ ghost use Rattle.mio_port.specs.Attempts.{AttemptBy, CheckBy, read_answer, write
 ghost use Rattle.mio_port.specs.EndAnswers.{ReadBy, WrittenBy, CheckedBy};
 ghost use Rattle.mio_port.specs.EndLeft.{ReadLeft, WriteLeft, CheckLeft};
 ghost use Rattle.mio_port.specs.OneEnd.{fresh, told, after_read, after_write, after_check};
-ghost use Rattle.mio_port.specs.OneEnd.{closed_end, counted_read, delayed_end, delayed_if, ended_end, handed_on_end, has_socket, noticed_end};
-ghost use Rattle.mio_port.specs.OneEnd.{undelayed_end};
+ghost use Rattle.mio_port.specs.OneEnd.{closed_end, counted_read, delayed_end, delayed_if, ended_end, handed_on_end, has_socket};
+ghost use Rattle.mio_port.specs.OneEnd.{noticed_end, undelayed_end};
 
 use crate::attempt::Attempt;
 use crate::check::Check;
@@ -174,7 +174,7 @@ impl End {
     }
 
     /// Its last read filled the room that it was given, so that more is likely to come.
-    pub(crate) fn is_filled(&self) -> bool
+    pub(crate) fn has_filled(&self) -> bool
         ensures { result ≡ self.now.filled }
     {
         self.filled

@@ -9,7 +9,7 @@ ghost use Rattle.mio_port.specs.EndLeft.{CheckLeft, EndAndPeerLeft, LeftAt, Plac
 ghost use Rattle.mio_port.specs.PortCalls.{OthersStay};
 ghost use Rattle.mio_port.specs.OneEnd.{noticed_end, ended_end, closed_end};
 ghost use Rattle.mio_port.specs.EndPlaces.{CountsStay, CountsAt, PlacesStay, PlaceWent, all_handed_on, holds, is_at_number};
-ghost use Rattle.mio_port.specs.EndPlaces.{AlikeBesideDelay, is_ending, is_filled, is_made, undelayed_beside};
+ghost use Rattle.mio_port.specs.EndPlaces.{AlikeBesideDelay, is_ending, has_filled, is_made, undelayed_beside};
 ghost use Rattle.mio_port.specs.EndPlaces.{is_bulky, is_prompt, is_write_ready, unmarked};
 ghost use Rattle.mio_port.specs.ReadTurns.{other_end};
 
@@ -70,11 +70,11 @@ pub(crate) fn out_end(link: u32) -> SideId
 }
 
 // The last read of the end with this number filled the room that it was given, so that more is likely to come.
-fn is_filled(ends: &[Option<End>], number: usize) -> bool
-    ensures { result ≡ is_filled (slice_index_or ends.now number None) }
+fn has_filled(ends: &[Option<End>], number: usize) -> bool
+    ensures { result ≡ has_filled (slice_index_or ends.now number None) }
 {
     match ends.get(number) {
-        Some(Some(end)) => end.is_filled(),
+        Some(Some(end)) => end.has_filled(),
         _ => false,
     }
 }
@@ -90,7 +90,7 @@ fn undelay_peer(ends: &mut Vec<Option<End>>, number: usize)
     let Some(Some(end)) = ends.get(number) else {
         return;
     };
-    if end.is_filled() {
+    if end.has_filled() {
         return;
     }
     if let Some(place) = ends.get_mut(other_end(number)) {
@@ -243,8 +243,10 @@ impl Ends {
     fn undelay_peer(&mut self, number: usize)
         ensures counts { CountsStay self.old.ends.items self.new.ends.items }
         ensures peer { slice_index_or self.new.ends.items (other_end number) None
-            ≡ undelayed_beside (slice_index_or self.old.ends.items number None) (slice_index_or self.old.ends.items (other_end number) None) }
-        ensures others { (n : ℕ) → n ≢ other_end number → slice_index_or self.new.ends.items n None ≡ slice_index_or self.old.ends.items n None }
+            ≡ undelayed_beside (slice_index_or self.old.ends.items number None)
+            (slice_index_or self.old.ends.items (other_end number) None) }
+        ensures others { (n : ℕ) → n ≢ other_end number →
+            slice_index_or self.new.ends.items n None ≡ slice_index_or self.old.ends.items n None }
     {
         undelay_peer(&mut self.ends, number);
     }
@@ -281,9 +283,9 @@ impl Ends {
         ensures cause { CountsAt self.old.ends.items self.new.ends.items side (is_failed_write result) }
         ensures by { WrittenBy (connection_at self.old.ends.items side) result }
         ensures left { PlaceLeft self.old.ends.items self.new.ends.items (number side)
-            (WriteLeft (is_filled (slice_index_or self.old.ends.items (other_end (number side)) None)) from.now result) }
+            (WriteLeft (has_filled (slice_index_or self.old.ends.items (other_end (number side)) None)) from.now result) }
     {
-        let more_follows = is_filled(&self.ends, other_end(side.number()));
+        let more_follows = has_filled(&self.ends, other_end(side.number()));
         self.write_own(side, from, more_follows)
     }
 

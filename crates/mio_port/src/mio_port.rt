@@ -20,7 +20,7 @@ ghost use Rattle.mio_port.specs.EndAnswers.{connection_at, ReadBy, WrittenBy, Ch
 ghost use Rattle.mio_port.specs.Acceptor.{shut_acceptor};
 ghost use Rattle.mio_port.specs.EndLeft.{CheckLeft, EndAndPeerLeft, LeftAt, NewEnds, PlaceLeft, ReadLeft, WriteLeft};
 ghost use Rattle.mio_port.specs.OneEnd.{ended_end, closed_end};
-ghost use Rattle.mio_port.specs.EndPlaces.{PlaceWent, all_handed_on, holds, is_filled, wants_ready};
+ghost use Rattle.mio_port.specs.EndPlaces.{PlaceWent, all_handed_on, holds, has_filled, wants_ready};
 ghost use Rattle.mio_port.specs.Kernels.{watch_of, HasSpare};
 ghost use Rattle.mio_port.specs.Asking.{PollLooked};
 ghost use Rattle.mio_port.specs.PollLeft.{PollLeft};
@@ -354,7 +354,7 @@ impl<'a, R: Net + Clock + AllocGlobal> Port for MioPort<'a, R> {
         requires { 0 < length from.now }
         ensures by { WrittenBy (connection_at self.old.ends.ends.items end) result }
         ensures left { PlaceLeft self.old.ends.ends.items self.new.ends.ends.items (number end)
-            (WriteLeft (is_filled (slice_index_or self.old.ends.ends.items (other_end (number end)) None)) from.now result) }
+            (WriteLeft (has_filled (slice_index_or self.old.ends.ends.items (other_end (number end)) None)) from.now result) }
         ensures others { self.new ≡ record self.old { ends = self.new.ends } }
 
         // What every port says.
