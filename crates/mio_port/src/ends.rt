@@ -235,20 +235,8 @@ impl Ends {
         ensures left { EndAndPeerLeft self.old.ends.items self.new.ends.items (number side) (LeftAt (ReadLeft into.new result)) }
     {
         let answer = self.read_own(side, into);
-        self.undelay_peer(side.number());
+        undelay_peer(&mut self.ends, side.number());
         answer
-    }
-
-    // Where the last read of the end with this number didn't fill its room, nothing is kept back of what is written to its peer.
-    fn undelay_peer(&mut self, number: usize)
-        ensures counts { CountsStay self.old.ends.items self.new.ends.items }
-        ensures peer { slice_index_or self.new.ends.items (other_end number) None
-            ≡ undelayed_beside (slice_index_or self.old.ends.items number None)
-            (slice_index_or self.old.ends.items (other_end number) None) }
-        ensures others { (n : ℕ) → n ≢ other_end number →
-            slice_index_or self.new.ends.items n None ≡ slice_index_or self.old.ends.items n None }
-    {
-        undelay_peer(&mut self.ends, number);
     }
 
     // One write to the end.
@@ -371,7 +359,7 @@ impl Ends {
         ensures went { EndAndPeerLeft self.old.ends.items self.new.ends.items (number side) (λ old new. new ≡ option_map closed_end old) }
     {
         self.close_own(side);
-        self.undelay_peer(side.number());
+        undelay_peer(&mut self.ends, side.number());
     }
 }
 
