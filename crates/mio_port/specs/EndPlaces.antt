@@ -1,5 +1,5 @@
 -- The counts of faults of all ends, which wants the ends are ready for, and which end of writing is pending.
-use Rattle.std.specs.Prelude.{◌≡◌, ◌≢◌, ◌==◌, ℕ, Bool, true, false, not, ◌&&◌, ◌||◌, if◌then◌else◌, List, map}
+use Rattle.std.specs.Prelude.{◌≡◌, ◌≢◌, ◌==◌, ℕ, Bool, true, false, not, ◌&&◌, ◌||◌, if◌then◌else◌, nat_le, List, length, map}
 use Rattle.std.specs.Prelude.{Option, Some, None, slice_index_or, option_map}
 use Rattle.ev_port.specs.FaultCounts.{Counted}
 use Rattle.ev_types.specs.declared.side.Side.TheVariants.{In, Out}
@@ -79,10 +79,9 @@ abbrev pub has_filled : Option End → Bool
 has_filled None = false
 has_filled (Some e) = e.filled
 
--- the system may keep its short writes back
-abbrev pub is_delayed : Option End → Bool
-is_delayed None = false
-is_delayed (Some e) = e.delayed
+-- More is likely to follow these bytes to an end: they are a whole block, and the last read of its peer filled its room.
+abbrev pub more_follows : Option End → List ℕ → Bool
+more_follows peer from = nat_le 16384 (length from) && has_filled peer
 
 -- an end beside its peer: where the peer's last read didn't fill its room, nothing is kept back
 abbrev pub undelayed_beside : Option End → Option End → Option End

@@ -9,7 +9,7 @@ ghost use Rattle.mio_port.specs.EndLeft.{CheckLeft, EndAndPeerLeft, LeftAt, Plac
 ghost use Rattle.mio_port.specs.PortCalls.{OthersStay};
 ghost use Rattle.mio_port.specs.OneEnd.{noticed_end, ended_end, closed_end};
 ghost use Rattle.mio_port.specs.EndPlaces.{CountsStay, CountsAt, PlacesStay, PlaceWent, all_handed_on, holds, is_at_number};
-ghost use Rattle.mio_port.specs.EndPlaces.{AlikeBesideDelay, is_ending, has_filled, is_made, undelayed_beside};
+ghost use Rattle.mio_port.specs.EndPlaces.{AlikeBesideDelay, has_filled, is_ending, is_made, more_follows, undelayed_beside};
 ghost use Rattle.mio_port.specs.EndPlaces.{is_bulky, is_prompt, is_write_ready, unmarked};
 ghost use Rattle.mio_port.specs.ReadTurns.{other_end};
 
@@ -26,6 +26,9 @@ use ev_types::{ConnAnswer, ReadAnswer, Side, SideId, WriteAnswer};
 use mio::event::Event;
 use number_set::NumberSet;
 use std::alloc::{AllocError, Global};
+
+/// A write of fewer bytes is never kept back: bulk is read and written in blocks of so many.
+const BLOCK: usize = 16_384;
 
 /// The ends of all links: each link's In end at twice its number, and its Out end behind it. Beside them stand the numbers
 /// of the ends that are ready for reading, the bulky ones in a set of their own, and of those that are
@@ -264,16 +267,17 @@ impl Ends {
         answer
     }
 
-    /// Where the last read of the end's peer filled its room, the system may keep a short write back, since more is likely to follow.
+    /// The system may keep the end of a whole block back where the last read of the end's peer filled its room, since more is likely to
+    /// follow.
     pub(crate) fn write(&mut self, side: SideId, from: &[u8]) -> WriteAnswer
         requires { 0 < length from.now }
         ensures within { WriteWithin result (length from.now) }
         ensures cause { CountsAt self.old.ends.items self.new.ends.items side (is_failed_write result) }
         ensures by { WrittenBy (connection_at self.old.ends.items side) result }
         ensures left { PlaceLeft self.old.ends.items self.new.ends.items (number side)
-            (WriteLeft (has_filled (slice_index_or self.old.ends.items (other_end (number side)) None)) from.now result) }
+            (WriteLeft (more_follows (slice_index_or self.old.ends.items (other_end (number side)) None) from.now) from.now result) }
     {
-        let more_follows = has_filled(&self.ends, other_end(side.number()));
+        let more_follows = from.len() >= BLOCK && has_filled(&self.ends, other_end(side.number()));
         self.write_own(side, from, more_follows)
     }
 

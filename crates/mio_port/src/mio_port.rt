@@ -20,7 +20,7 @@ ghost use Rattle.mio_port.specs.EndAnswers.{connection_at, ReadBy, WrittenBy, Ch
 ghost use Rattle.mio_port.specs.Acceptor.{shut_acceptor};
 ghost use Rattle.mio_port.specs.EndLeft.{CheckLeft, EndAndPeerLeft, LeftAt, NewEnds, PlaceLeft, ReadLeft, WriteLeft};
 ghost use Rattle.mio_port.specs.OneEnd.{ended_end, closed_end};
-ghost use Rattle.mio_port.specs.EndPlaces.{PlaceWent, all_handed_on, holds, has_filled, wants_ready};
+ghost use Rattle.mio_port.specs.EndPlaces.{PlaceWent, all_handed_on, holds, more_follows, wants_ready};
 ghost use Rattle.mio_port.specs.Kernels.{watch_of, HasSpare};
 ghost use Rattle.mio_port.specs.Asking.{PollLooked};
 ghost use Rattle.mio_port.specs.PollLeft.{PollLeft};
@@ -178,9 +178,9 @@ impl<'a, R: Net + Clock + AllocGlobal> MioPort<'a, R> {
 /// - `read` and `write` are `NotYet` where they would block or were interrupted, and at an end that was closed or never
 ///   made; a write that takes no byte is `Failed`, as is every other error. No signal comes of a peer that is gone.
 /// - What comes in bulk goes in long segments: where the last read of the other end filled its room, more is likely to follow, and the
-///   system may keep a short write back (Nagle's algorithm). It goes at once when a read of that other end doesn't fill its room, or that
-///   end is closed. Where neither comes, since a limit or a mark stops the reading, it goes once what went before is acknowledged, which
-///   a receiver may put off (Linux by 40 to 200 ms).
+///   system may keep back the end of a write of 16,384 bytes or more (Nagle's algorithm). It goes at once when a read of that other end
+///   doesn't fill its room, that end is closed, or fewer bytes are written. Where none of these comes, it goes once what went before is
+///   acknowledged, which a receiver may put off (Linux by 40 to 200 ms).
 /// - `stop_accepting` closes the listener: a client that comes from then on is refused, and one that was not accepted yet is
 ///   cut off.
 /// - `close_write` leaves its end pending, if that has a socket, until the next `poll`, `poll_table` or `close_write`, a `write` to
@@ -354,7 +354,7 @@ impl<'a, R: Net + Clock + AllocGlobal> Port for MioPort<'a, R> {
         requires { 0 < length from.now }
         ensures by { WrittenBy (connection_at self.old.ends.ends.items end) result }
         ensures left { PlaceLeft self.old.ends.ends.items self.new.ends.ends.items (number end)
-            (WriteLeft (has_filled (slice_index_or self.old.ends.ends.items (other_end (number end)) None)) from.now result) }
+            (WriteLeft (more_follows (slice_index_or self.old.ends.ends.items (other_end (number end)) None) from.now) from.now result) }
         ensures others { self.new ≡ record self.old { ends = self.new.ends } }
 
         // What every port says.
