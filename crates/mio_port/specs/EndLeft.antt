@@ -71,8 +71,8 @@ pub record PlaceLeft (old new : List (Option End)) (place : ℕ) (left : End →
   pub own : LeftAt left (slice_index_or old place None) (slice_index_or new place None)
   pub others : (n : ℕ) → n ≢ place → slice_index_or new n None ≡ slice_index_or old n None
 
--- The end at one place was left so. But where its last read didn't fill its room, the system keeps nothing back of what is written to its
--- peer. Every other place is as it was.
+-- The end at one place was left so. But where the last of its reads that counts didn't fill its room, the system keeps nothing back of what
+-- is written to its peer. Every other place is as it was.
 pub record EndAndPeerLeft (old new : List (Option End)) (place : ℕ) (left : Option End → Option End → Type 0) : Type 0 where
   pub own : left (slice_index_or old place None) (slice_index_or new place None)
   pub peer : slice_index_or new (other_end place) None

@@ -54,14 +54,14 @@ told_end e x = record e { connection = told e.connection x }
 abbrev pub counted_read : End → Bool → End
 counted_read e full = record e { filled = full; bulky = full || e.filled }
 
--- A read that came short of its room, with no hang-up, and one that would block leave nothing to read.
+-- A read that came short of its room, with no hang-up, and one that would block leave nothing to read. An interrupted read doesn't count.
 abbrev pub after_read : End → Attempt → ℕ → End
 after_read e (attempt.Moved count) room = record (counted_read e (not (nat_lt count room))) {
   read_ready = e.read_ready && (e.hung_up || not (nat_lt count room));
 }
 after_read e attempt.WouldBlock room = record (counted_read e false) { read_ready = false }
 after_read e attempt.Interrupted room = e
-after_read e attempt.Failed room = faulty e
+after_read e attempt.Failed room = faulty (counted_read e false)
 after_read e attempt.Absent room = e
 
 -- one read was made, which left its room so

@@ -234,7 +234,7 @@ impl End {
         self.take_read(attempt, into.len())
     }
 
-    // A read that would have blocked counts as one that came short.
+    // A read that would have blocked or that failed counts as one that came short. One that was interrupted doesn't count.
     fn count_read(&mut self, is_full: bool)
         ensures { self.new ≡ counted_read self.old is_full }
     {
@@ -264,6 +264,7 @@ impl End {
             Attempt::Interrupted | Attempt::Absent => ReadAnswer::NotYet,
             Attempt::Failed => {
                 self.faults = self.faults.saturating_add(1);
+                self.count_read(false);
                 ReadAnswer::Failed
             }
         }

@@ -19,7 +19,7 @@ use crate::end::End;
 use crate::place::{
     check_at, close_at, close_write_at, hand_on_at, notice_at, read_at, undelay_at, write_at,
 };
-use crate::ready::keep_up;
+use crate::ready::Ready;
 use crate::turn::other_end;
 use ev_port::Want;
 use ev_types::{ConnAnswer, ReadAnswer, Side, SideId, WriteAnswer};
@@ -30,9 +30,8 @@ use std::alloc::{AllocError, Global};
 /// A write of fewer bytes is never kept back: bulk is read and written in blocks of so many.
 const BLOCK: usize = 16_384;
 
-/// The ends of all links: each link's In end at twice its number, and its Out end behind it. Beside them stand the numbers
-/// of the ends that are ready for reading, the bulky ones in a set of their own, and of those that are
-/// ready for writing, so that a poll looks at one end at most.
+/// The ends of all links: each link's In end at twice its number, and its Out end behind it. Beside them stand the numbers of those that
+/// are ready, so that a poll looks at one end at most.
 ///
 /// An end of writing is pending from its call until it is handed to the system, of one end at most, or until that end is closed, since a
 /// close ends writing by itself.
@@ -41,16 +40,14 @@ const BLOCK: usize = 16_384;
 #[derive(Drop)]
 pub(crate) struct Ends {
     ends: Vec<Option<End>>,
-    prompt: NumberSet,
-    bulky: NumberSet,
-    writable: NumberSet,
+    ready: Ready,
     pending: Option<usize>,
-    ghost prompts: { (n : ℕ) → prompt.has n ≡ is_prompt (slice_index_or ends.items n None) },
-    ghost bulks: { (n : ℕ) → bulky.has n ≡ is_bulky (slice_index_or ends.items n None) },
-    ghost writes: { (n : ℕ) → writable.has n ≡ is_write_ready (slice_index_or ends.items n None) },
-    ghost prompt_room: { vec_len ends ≤ prompt.len },
-    ghost bulky_room: { vec_len ends ≤ bulky.len },
-    ghost write_room: { vec_len ends ≤ writable.len },
+    ghost prompts: { (n : ℕ) → ready.prompt.has n ≡ is_prompt (slice_index_or ends.items n None) },
+    ghost bulks: { (n : ℕ) → ready.bulky.has n ≡ is_bulky (slice_index_or ends.items n None) },
+    ghost writes: { (n : ℕ) → ready.writable.has n ≡ is_write_ready (slice_index_or ends.items n None) },
+    ghost prompt_room: { vec_len ends ≤ ready.prompt.len },
+    ghost bulky_room: { vec_len ends ≤ ready.bulky.len },
+    ghost write_room: { vec_len ends ≤ ready.writable.len },
     ghost pendings: { (n : ℕ) → is_ending (slice_index_or ends.items n None) ≡ is_at_number pending n },
 }
 
@@ -116,9 +113,11 @@ impl Ends {
     {
         Ends {
             ends: Vec::new(alloc),
-            prompt: NumberSet::new(alloc),
-            bulky: NumberSet::new(alloc),
-            writable: NumberSet::new(alloc),
+            ready: Ready {
+                prompt: NumberSet::new(alloc),
+                bulky: NumberSet::new(alloc),
+                writable: NumberSet::new(alloc),
+            },
             pending: None,
         }
     }
@@ -145,9 +144,9 @@ impl Ends {
     {
         let needed = out_end(link).number() + 1;
         let missing = needed.saturating_sub(self.ends.len());
-        self.prompt.lengthen(needed)?;
-        self.bulky.lengthen(needed)?;
-        self.writable.lengthen(needed)?;
+        self.ready.prompt.lengthen(needed)?;
+        self.ready.bulky.lengthen(needed)?;
+        self.ready.writable.lengthen(needed)?;
         self.ends.reserve(missing)?;
         for _place in 0..missing {
             self.ends.push_reserved(None);
@@ -172,21 +171,9 @@ impl Ends {
         let near = in_end(link).number();
         let far = out_end(link).number();
         self.ends[near] = Some(inside);
-        keep_up(
-            &self.ends,
-            near,
-            &mut self.prompt,
-            &mut self.bulky,
-            &mut self.writable,
-        );
+        self.ready.keep_up(&self.ends, near);
         self.ends[far] = Some(outside);
-        keep_up(
-            &self.ends,
-            far,
-            &mut self.prompt,
-            &mut self.bulky,
-            &mut self.writable,
-        );
+        self.ready.keep_up(&self.ends, far);
     }
 
     /// What the kernel reported of the end with this number. Of an end that isn't there it tells nothing.
@@ -196,13 +183,7 @@ impl Ends {
     {
         if let Some(place) = self.ends.get_mut(number) {
             notice_at(place, event);
-            keep_up(
-                &self.ends,
-                number,
-                &mut self.prompt,
-                &mut self.bulky,
-                &mut self.writable,
-            );
+            self.ready.keep_up(&self.ends, number);
         }
     }
 
@@ -219,13 +200,7 @@ impl Ends {
             return ReadAnswer::NotYet;
         };
         let answer = read_at(place, into);
-        keep_up(
-            &self.ends,
-            number,
-            &mut self.prompt,
-            &mut self.bulky,
-            &mut self.writable,
-        );
+        self.ready.keep_up(&self.ends, number);
         answer
     }
 
@@ -257,13 +232,7 @@ impl Ends {
         };
         let answer = write_at(place, from, more_follows);
         settle(&mut self.pending, number);
-        keep_up(
-            &self.ends,
-            number,
-            &mut self.prompt,
-            &mut self.bulky,
-            &mut self.writable,
-        );
+        self.ready.keep_up(&self.ends, number);
         answer
     }
 
@@ -291,13 +260,7 @@ impl Ends {
             return ConnAnswer::Pending;
         };
         let answer = check_at(place);
-        keep_up(
-            &self.ends,
-            number,
-            &mut self.prompt,
-            &mut self.bulky,
-            &mut self.writable,
-        );
+        self.ready.keep_up(&self.ends, number);
         answer
     }
 
@@ -314,13 +277,7 @@ impl Ends {
         if close_write_at(place) {
             self.pending = Some(number);
         }
-        keep_up(
-            &self.ends,
-            number,
-            &mut self.prompt,
-            &mut self.bulky,
-            &mut self.writable,
-        );
+        self.ready.keep_up(&self.ends, number);
     }
 
     /// Hands to the system the end of writing that is pending, if one is.
@@ -348,13 +305,7 @@ impl Ends {
         };
         close_at(place);
         settle(&mut self.pending, number);
-        keep_up(
-            &self.ends,
-            number,
-            &mut self.prompt,
-            &mut self.bulky,
-            &mut self.writable,
-        );
+        self.ready.keep_up(&self.ends, number);
     }
 
     /// Nothing is kept back any more of what is written to the end's peer.

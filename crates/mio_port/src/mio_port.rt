@@ -179,8 +179,8 @@ impl<'a, R: Net + Clock + AllocGlobal> MioPort<'a, R> {
 ///   made; a write that takes no byte is `Failed`, as is every other error. No signal comes of a peer that is gone.
 /// - What comes in bulk goes in long segments: where the last read of the other end filled its room, more is likely to follow, and the
 ///   system may keep back the end of a write of 16,384 bytes or more (Nagle's algorithm). It goes at once when a read of that other end
-///   doesn't fill its room, that end is closed, or fewer bytes are written. Where none of these comes, it goes once what went before is
-///   acknowledged, which a receiver may put off (Linux by 40 to 200 ms).
+///   doesn't fill its room or fails, that end is closed, or fewer bytes are written. Where none of these comes, it goes once what went
+///   before is acknowledged, which a receiver may put off (Linux by 40 to 200 ms).
 /// - `stop_accepting` closes the listener: a client that comes from then on is refused, and one that was not accepted yet is
 ///   cut off.
 /// - `close_write` leaves its end pending, if that has a socket, until the next `poll`, `poll_table` or `close_write`, a `write` to

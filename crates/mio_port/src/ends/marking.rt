@@ -7,7 +7,6 @@ ghost use Rattle.mio_port.specs.ReadTurns.{ListedInTurn, drains_now, other_end};
 
 use super::Ends;
 use crate::end::End;
-use crate::ready::mark_with;
 use crate::turn::{Turn, other_end, wants_at};
 use ev_port::{Want, WantTable};
 
@@ -26,13 +25,13 @@ impl Ends {
         ensures { result ≡ can_read self.now.ends.items want }
     {
         let number = want.side.number();
-        want.read && (self.prompt.contains(number) || self.bulky.contains(number))
+        want.read && (self.ready.prompt.contains(number) || self.ready.bulky.contains(number))
     }
 
     fn can_write(&self, want: Want) -> bool
         ensures { result ≡ can_write self.now.ends.items want }
     {
-        want.write && self.writable.contains(want.side.number())
+        want.write && self.ready.writable.contains(want.side.number())
     }
 
     /// Something that is wanted can be done.
@@ -57,8 +56,8 @@ impl Ends {
     pub(crate) fn is_any_of_table_ready(&self, wants: &WantTable) -> bool
         ensures { result ≡ list_any (wants_ready self.now.ends.items) (named wants.now) }
     {
-        wants.is_any_ready(&self.prompt, &self.writable)
-            || wants.is_any_ready(&self.bulky, &self.writable)
+        wants.is_any_ready(&self.ready.prompt, &self.ready.writable)
+            || wants.is_any_ready(&self.ready.bulky, &self.ready.writable)
     }
 
     /// Lists in a table what it wants and can be done, with the marks; of the bulky ends only that whose turn it is by now, and
@@ -68,12 +67,12 @@ impl Ends {
         ensures rows { RowsStay wants.old wants.new }
         ensures listed { ListedInTurn self.old.ends.items turn result wants.old wants.new }
     {
-        let mut next = turn.next(wants, &self.bulky);
+        let mut next = turn.next(wants, &self.ready.bulky);
         next.peer_drains = self.drains_now(wants, turn, next.who);
         if self.is_read_first(next) {
-            mark_with(&mut self.prompt, &self.writable, next.who, wants);
+            self.ready.mark_with(next.who, wants);
         } else {
-            wants.mark_ready(&self.prompt, &self.writable);
+            wants.mark_ready(&self.ready.prompt, &self.ready.writable);
         }
         next
     }
@@ -83,7 +82,7 @@ impl Ends {
     fn drains_now(&self, wants: &WantTable, before: Turn, who: usize) -> bool
         ensures { result ≡ drains_now wants.now self.now.ends.items before who }
     {
-        if !self.bulky.contains(who) {
+        if !self.ready.bulky.contains(who) {
             return false;
         }
         let peer = other_end(who);
@@ -95,10 +94,11 @@ impl Ends {
     // what was read a turn before, at most one read's worth (16,384 bytes in the relay), and doesn't hold it up: the one is read
     // and the other written in one turn.
     fn is_read_first(&self, turn: Turn) -> bool
-        ensures { result ≡ (self.now.bulky.has turn.who && not (turn.peer_drains && self.now.writable.has (other_end turn.who))) }
+        ensures { result ≡ (self.now.ready.bulky.has turn.who
+            && not (turn.peer_drains && self.now.ready.writable.has (other_end turn.who))) }
     {
-        self.bulky.contains(turn.who)
-            && !(turn.peer_drains && self.writable.contains(other_end(turn.who)))
+        self.ready.bulky.contains(turn.who)
+            && !(turn.peer_drains && self.ready.writable.contains(other_end(turn.who)))
     }
 
     fn marked(&self, want: Want) -> Want

@@ -8,15 +8,18 @@ pub returns-then-is_any_ready : goal.returns-then-is_any_ready
 returns-then-is_any_ready c =
     let ends = c.args.self.now in
     let wants = named c.args.wants.now in
-    let same = any-ends ends.ends.items ends.prompt ends.bulky ends.writable ends.prompts ends.bulks ends.writes wants in
-    c.if-is_any_ready.true ∙ ap (λ b. b || list_any (is_ready_by ends.bulky ends.writable) wants) (sym c.if-is_any_ready.true ∙
-    c.is_any_ready.ensures)
+    let same = any-ends ends.ends.items ends.ready.prompt ends.ready.bulky ends.ready.writable ends.prompts ends.bulks ends.writes wants in
+    c.if-is_any_ready.true
+    ∙ ap (λ b. b || list_any (is_ready_by ends.ready.bulky ends.ready.writable) wants)
+    (sym c.if-is_any_ready.true ∙ c.is_any_ready.ensures)
     ∙ same
 
 pub returns-else-is_any_ready : goal.returns-else-is_any_ready
 returns-else-is_any_ready c =
     let ends = c.args.self.now in
     let wants = named c.args.wants.now in
-    let same = any-ends ends.ends.items ends.prompt ends.bulky ends.writable ends.prompts ends.bulks ends.writes wants in
+    let same = any-ends ends.ends.items ends.ready.prompt ends.ready.bulky ends.ready.writable ends.prompts ends.bulks ends.writes wants in
     c.is_any_ready-else-is_any_ready.ensures
-    ∙ ap (λ b. b || list_any (is_ready_by ends.bulky ends.writable) wants) (sym c.if-is_any_ready.false ∙ c.is_any_ready.ensures) ∙ same
+    ∙ ap (λ b. b || list_any (is_ready_by ends.ready.bulky ends.ready.writable) wants)
+    (sym c.if-is_any_ready.false ∙ c.is_any_ready.ensures)
+    ∙ same

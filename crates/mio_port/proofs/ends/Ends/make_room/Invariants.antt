@@ -9,7 +9,7 @@ invariant-loop-place l = record {
   places : PlacesStay l.initial.self.ends.items l.self.ends.items;
   grown : vec_len l.self.ends ≡ vec_len l.initial.self.ends + l._place;
   room : vec_len l.initial.self.ends + l.missing ≤ vec_capacity l.self.ends;
-  prompt_room : vec_len l.initial.self.ends + l.missing ≤ l.self.prompt.len;
-  bulky_room : vec_len l.initial.self.ends + l.missing ≤ l.self.bulky.len;
-  write_room : vec_len l.initial.self.ends + l.missing ≤ l.self.writable.len;
+  prompt_room : vec_len l.initial.self.ends + l.missing ≤ l.self.ready.prompt.len;
+  bulky_room : vec_len l.initial.self.ends + l.missing ≤ l.self.ready.bulky.len;
+  write_room : vec_len l.initial.self.ends + l.missing ≤ l.self.ready.writable.len;
 }

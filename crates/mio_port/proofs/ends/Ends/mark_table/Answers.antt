@@ -14,10 +14,11 @@ returns-then-is_read_first-clause-listed c =
     let next = c.next-next.result in
     let turn : Turn = record { who = next.who; left = next.left; peer_drains = c.drains_now.result } in
     let may = sym c.is_read_first.ensures ∙ c.if-is_read_first.true in
-    let same = marked-turn ends.ends.items ends.prompt ends.bulky ends.writable turn ends.prompts ends.bulks ends.writes may in
+    let same = marked-turn ends.ends.items ends.ready.prompt ends.ready.bulky ends.ready.writable turn ends.prompts ends.bulks ends.writes
+    may in
     record {
-      went = subst (λ takes. TurnWent takes c.args.turn turn) (in_turn-ends wants ends.ends.items ends.bulky ends.bulks)
-          (went-peer (in_turn wants ends.bulky) c.args.turn next c.drains_now.result c.next-next.ensures);
+      went = subst (λ takes. TurnWent takes c.args.turn turn) (in_turn-ends wants ends.ends.items ends.ready.bulky ends.bulks)
+          (went-peer (in_turn wants ends.ready.bulky) c.args.turn next c.drains_now.result c.next-next.ensures);
       drains = c.drains_now.ensures;
       list = c.mark_with.ensures.list ∙ ap (λ mark. filter is_marked (map mark (named wants))) same;
     }
@@ -29,10 +30,11 @@ returns-else-is_read_first-clause-listed c =
     let next = c.next-next.result in
     let turn : Turn = record { who = next.who; left = next.left; peer_drains = c.drains_now.result } in
     let may = sym c.is_read_first.ensures ∙ c.if-is_read_first.false in
-    let same = marked-left ends.ends.items ends.prompt ends.bulky ends.writable turn ends.prompts ends.bulks ends.writes may in
+    let same = marked-left ends.ends.items ends.ready.prompt ends.ready.bulky ends.ready.writable turn ends.prompts ends.bulks ends.writes
+    may in
     record {
-      went = subst (λ takes. TurnWent takes c.args.turn turn) (in_turn-ends wants ends.ends.items ends.bulky ends.bulks)
-          (went-peer (in_turn wants ends.bulky) c.args.turn next c.drains_now.result c.next-next.ensures);
+      went = subst (λ takes. TurnWent takes c.args.turn turn) (in_turn-ends wants ends.ends.items ends.ready.bulky ends.bulks)
+          (went-peer (in_turn wants ends.ready.bulky) c.args.turn next c.drains_now.result c.next-next.ensures);
       drains = c.drains_now.ensures;
       list = c.mark_ready.ensures.list ∙ ap (λ mark. filter is_marked (map mark (named wants))) same;
     }
