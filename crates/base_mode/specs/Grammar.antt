@@ -1,7 +1,8 @@
 -- What a line says, by cases on its words. Which lines may stand behind which stands elsewhere.
-use Rattle.std.specs.Prelude.{ℕ, ◌^◌, List, [], ◌∷◌, ◌==◌, codes, Bool, true, false, if◌then◌else◌, nat_le, Option, Some, None, option_map}
+use Rattle.std.specs.Prelude.{ℕ, ◌^◌, List, [], ◌∷◌, codes, Bool, true, false, if◌then◌else◌, nat_le, Option, Some, None, option_map}
 use Rattle.std.specs.Prelude.{option_and_then}
 use Rattle.std.specs.Str.{bytes_eq}
+use Rattle.script_text.specs.Grammar.{is_comment}
 use Rattle.script_text.specs.Numbers.{number_within}
 use Rattle.base_mode.specs.declared.command.Reaction.{Reaction}
 use Rattle.base_mode.specs.declared.command.Reaction.TheVariants as act
@@ -10,11 +11,6 @@ use Rattle.base_mode.specs.declared.line.Keyword.{Keyword}
 use Rattle.base_mode.specs.declared.line.Keyword.TheVariants as key
 use Rattle.base_mode.specs.declared.line.Line.{Line}
 use Rattle.base_mode.specs.declared.line.Line.TheVariants as line
-
--- a line whose first word begins so says nothing
-abbrev pub is_comment : List ℕ → Bool
-is_comment [] = false
-is_comment (b ∷ bs) = b == 35
 
 -- the kind of a line, by its first word
 abbrev pub keyword_of : List ℕ → Option Keyword

@@ -1,6 +1,7 @@
 // What one line says, whatever stands before it. Whether it may stand there is left to the reader of a script.
 ghost use Rattle.std.specs.Prelude.{◌≡◌, ◌∷◌, ◌<◌, ◌^◌, [], map};
-ghost use Rattle.base_mode.specs.Grammar.{keyword_of, event_of, delay_of, ranged, persists, act_of, is_comment, said, said_by};
+ghost use Rattle.base_mode.specs.Grammar.{keyword_of, event_of, delay_of, ranged, persists, act_of, said, said_by};
+ghost use Rattle.script_text.specs.Grammar.{is_comment};
 
 use crate::command::{Command, Delay, Reaction};
 use script_text::{MAX_NUMBER, is_word, number};

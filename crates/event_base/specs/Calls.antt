@@ -1,5 +1,5 @@
 -- Each call on a base: the base behind it, or why it is refused. What stands first among the refusals is told.
-use Rattle.std.specs.Prelude.{◌≡◌, ℕ, ◌+◌, ◌-◌, ◌/◌, ◌^◌, ◌==◌, ◌&&◌, ◌||◌, not, Bool, true, false, if◌then◌else◌, nat_lt, nat_le, [], ◌∷◌, ◌++◌, length, map, count_by, slice_get, slice_set, Option, Some, None, is_some, unwrap_or, Result, Ok, Err}
+use Rattle.std.specs.Prelude.{◌≡◌, ℕ, ◌+◌, ◌-◌, ◌/◌, ◌^◌, ◌==◌, ◌&&◌, ◌||◌, not, Bool, true, false, if◌then◌else◌, nat_lt, [], ◌∷◌, ◌++◌, length, map, count_by, slice_get, slice_set, Option, Some, None, is_some, unwrap_or, Result, Ok, Err}
 use Rattle.std.specs.List.{list_any}
 use Rattle.std.specs.Option.{option_map, option_map_or}
 use Rattle.event_base.specs.declared.event.Event.{Event}
@@ -19,10 +19,6 @@ Step = Result BaseValue BaseFault
 abbrev pub IsAnswer : BaseFault → Step → Type 0
 IsAnswer fault (Ok b) = fault ≡ Memory
 IsAnswer fault (Err refusal) = fault ≡ refusal
-
--- there can be so many priorities: 1 to 256
-abbrev pub is_count : ℕ → Bool
-is_count priorities = nat_le 1 priorities && nat_le priorities 256
 
 -- a new base has no events, and its time is 0
 abbrev pub new_base : ℕ → BaseValue

@@ -3,7 +3,7 @@ ghost use Rattle.std.specs.Prelude.{◌≡◌, true, ◌≤◌, ◌<◌, ◌+◌
 ghost use Rattle.std.specs.Prelude.{◌≢◌, OnOk, OnErr, false, is_some};
 ghost use Rattle.std.specs.List.{list_any};
 ghost use Rattle.std.specs.Option.{ForSome};
-ghost use Rattle.event_base.specs.Calls.{IsAnswer, is_count, new_base, fit, new_event, set_priority, add_event, del_event, activate};
+ghost use Rattle.event_base.specs.Calls.{IsAnswer, new_base, fit, new_event, set_priority, add_event, del_event, activate};
 ghost use Rattle.event_base.specs.Calls.{signal, begin_turn, next_active, next_fire, poll_timeout, ended, loop_break, loop_exit};
 ghost use Rattle.event_base.specs.SetsAgain.{sets_again};
 ghost use Rattle.event_base.specs.Freeing.{free_event, is_pending};
@@ -50,6 +50,7 @@ impl Model for Base {
     ghost Value = { BaseValue };
 
     ghost use Rattle.event_base.specs.BaseView.{base_of, IsBase};
+ghost use Rattle.prio_queue.specs.Queues.{is_count};
 
     ghost view = { base_of };
 

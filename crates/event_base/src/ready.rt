@@ -5,7 +5,7 @@ ghost use Rattle.std.specs.Prelude.{OnErr, IsOk, if◌then◌else◌};
 ghost use Rattle.event_base.specs.Rising.{at};
 ghost use Rattle.event_base.specs.Ready.{IsFront, IsNext, IsLeast, CanWake, woken, CanAppend, appended_all, orders};
 ghost use Rattle.event_base.specs.Ready.{priorities as priorities_of};
-ghost use Rattle.event_base.specs.Calls.{is_count};
+ghost use Rattle.prio_queue.specs.Queues.{is_count};
 
 use prio_queue::{Active, PrioFault};
 use std::alloc::{AllocError, Global};

@@ -1,11 +1,10 @@
 -- What a line asks, by cases on its words.
 use Rattle.std.specs.Prelude.{ℕ, ◌^◌, ◌≤◌, List, [], ◌∷◌, codes, if◌then◌else◌, Option, Some, None, option_map, option_and_then}
 use Rattle.std.specs.Str.{bytes_eq}
-use Rattle.token_bucket.specs.declared.limit.Dir.{Dir}
-use Rattle.token_bucket.specs.declared.limit.Dir.TheVariants as dir
 use Rattle.ev_types.specs.declared.filter.Mode.{Mode}
 use Rattle.ev_types.specs.declared.filter.Mode.TheVariants as mode
 use Rattle.script_text.specs.Numbers.{number_within, bytes_of}
+use Rattle.script_text.specs.ValueGrammar.{dir_of}
 use Rattle.pairs_mode.specs.declared.half.Half.{Half}
 use Rattle.pairs_mode.specs.declared.half.Half.TheVariants.{A, B}
 use Rattle.pairs_mode.specs.declared.line.PairAsk.{PairAsk}
@@ -14,9 +13,6 @@ use Rattle.pairs_mode.specs.declared.line.Line.{Line}
 
 abbrev pub half_of : List ℕ → Option Half
 half_of word = if bytes_eq word (codes "a") then Some A else (if bytes_eq word (codes "b") then Some B else None)
-
-abbrev pub dir_of : List ℕ → Option Dir
-dir_of word = if bytes_eq word (codes "read") then Some dir.Read else (if bytes_eq word (codes "write") then Some dir.Write else None)
 
 abbrev pub mode_of : List ℕ → Option Mode
 mode_of word =

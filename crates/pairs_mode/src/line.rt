@@ -1,7 +1,8 @@
 // What one line of a script asks. Running it is left to others.
 ghost use Rattle.std.specs.Prelude.{◌≡◌, ◌≤◌, IfOk, IfSome, map, option_map};
 ghost use Rattle.script_text.specs.Numbers.{bytes_of};
-ghost use Rattle.pairs_mode.specs.Grammar.{half_of, dir_of, mode_of, count_of, mark_of, one_ask, ask_by, said, IsAskWithin, IsWithin};
+ghost use Rattle.pairs_mode.specs.Grammar.{half_of, mode_of, count_of, mark_of, one_ask, ask_by, said, IsAskWithin, IsWithin};
+ghost use Rattle.script_text.specs.ValueGrammar.{dir_of};
 
 use crate::half::Half;
 use ev_types::{Dir, Mode, NoMemory};

@@ -1,5 +1,5 @@
 // A run over a port: it is started once, and turns are made until all links were opened and none is open, or a hook stops one.
-ghost use Rattle.std.specs.Prelude.{◌≡◌, ◌≢◌, ◌||◌, not, true, false, Ok};
+ghost use Rattle.std.specs.Prelude.{◌≡◌, ◌≢◌, ◌||◌, not, nat_lt, true, false, Ok};
 ghost use Rattle.ev_types.specs.declared.status.Status.TheVariants.{WriteFault};
 ghost use Rattle.relay_drive.specs.Seats.{telling, seated_sides, AreFresh, AreSeated};
 ghost use Rattle.relay_serve.specs.Seen.{seen, drained, WasStopped};
@@ -31,17 +31,17 @@ fn is_served_out(settings: &Settings, drive: &Drive) -> bool
     drive.opened() == settings.links && !drive.has_open_links()
 }
 
-/// Says to the port that no more links will be asked for, where that is so and it was not said before.
-fn stop_accepting<P: Port>(accepts: bool, told: &mut bool, port: &mut P)
-    ensures told { told.new ≡ (told.old || not accepts) }
-    ensures stops { accepts ≡ false → told.old ≡ false → P.stops port.old port.new }
+/// Says to the port that no more links will be asked for, once as many were opened as may be.
+fn stop_accepting<P: Port>(settings: &Settings, drive: &Drive, told: &mut bool, port: &mut P)
+    ensures told { told.new ≡ (told.old || not (nat_lt drive.now.state.plain.opened settings.now.links)) }
+    ensures stops { nat_lt drive.now.state.plain.opened settings.now.links ≡ false → told.old ≡ false → P.stops port.old port.new }
     ensures rests { PortRests P.Port port.old port.new }
 
-    // Only where that is so, and once.
-    ensures later { accepts ≡ true → port.new ≡ port.old }
+    // Not before that, and once.
+    ensures later { nat_lt drive.now.state.plain.opened settings.now.links ≡ true → port.new ≡ port.old }
     ensures once { told.old ≡ true → port.new ≡ port.old }
 {
-    if !accepts && !*told {
+    if drive.opened() >= settings.links && !*told {
         port.stop_accepting();
         *told = true;
     }
@@ -68,7 +68,7 @@ fn make_turns<R: Wait, P: Port, S: Scribe>(
     let mut turns = 0u32;
     let mut told = false;
     for _ in rt.forever() {
-        stop_accepting(drive.opened() < settings.links, &mut told, port);
+        stop_accepting(settings, drive, &mut told, port);
         if is_served_out(settings, drive) {
             return Ok(ServeEnd::ServedOut);
         }

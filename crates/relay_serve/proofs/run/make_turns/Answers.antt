@@ -96,8 +96,7 @@ returns-then-is_served_out-clause-went g c =
 -- All links were opened, so that the port was told.
 pub returns-then-is_served_out-clause-stopped : goal.returns-then-is_served_out-clause-stopped
 returns-then-is_served_out-clause-stopped g c = λ out.
-    let none = ap (λ n. nat_lt n c.args.settings.now.links) c.opened.ensures
-    ∙ none-more c.loop.drive.state c.args.settings.now.links (sym c.is_served_out.ensures ∙ c.if-is_served_out.true) in
+    let none = none-more c.loop.drive.state c.args.settings.now.links (sym c.is_served_out.ensures ∙ c.if-is_served_out.true) in
     stopped-after g.P.Port _ _ _ _ _ c.loop.invariant.stopped c.stop_accepting.ensures.told c.stop_accepting.ensures.stops
     (told-when _ _ _ c.stop_accepting.ensures.told none)
 
