@@ -12,6 +12,7 @@ ghost use Rattle.event_base.specs.Fires.{hearing};
 ghost use Rattle.event_base.specs.Turns.{time_at, is_due, least, active_priority, next_event};
 ghost use Rattle.event_base.specs.Rousing.{event_of, needed, risen, wakers, CanRise, AreApart};
 ghost use Rattle.min_timer.specs.Queue.{has_delay};
+ghost use Rattle.prio_queue.specs.Queues.{is_count};
 
 use crate::BaseFault;
 use crate::deadlines::Deadlines;
@@ -50,7 +51,6 @@ impl Model for Base {
     ghost Value = { BaseValue };
 
     ghost use Rattle.event_base.specs.BaseView.{base_of, IsBase};
-ghost use Rattle.prio_queue.specs.Queues.{is_count};
 
     ghost view = { base_of };
 
