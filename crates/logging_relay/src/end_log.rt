@@ -5,7 +5,7 @@ ghost use Rattle.script_text.specs.TraceText.{entry_words};
 ghost use Rattle.ev_types.specs.Growth.{Grew};
 ghost use Rattle.ev_port.specs.Polling.{want_events};
 ghost use Rattle.ev_port.specs.Table.{named};
-ghost use Rattle.logging_relay.specs.EndLines.{TakesLine, LogsEnd};
+ghost use Rattle.logging_relay.specs.EndLines.{IsLogOf, IsNewSink, LogsEnd, TakesLine};
 
 use ev_port::{LogStep, Scribe, Sink, TraceLog, WantTable};
 use ev_types::{Entry, NoMemory};
@@ -15,15 +15,16 @@ use std::alloc::Global;
 
 /// A scribe that writes a line to a sink for each side that is freed, with its cause, how many bytes were moved from it and how many its
 /// end was given. It keeps no entry, and room for one line, so no step of the relay ever waits for memory of it. A line that the sink
-/// doesn't take is lost: the relay goes on.
+/// doesn't take is lost: the relay goes on. At every moment the sink has the log of all entries so far.
 ///
 /// Own.
 #[derive(Drop)]
-pub struct EndLog<K> {
-    pub out: K,
+pub struct EndLog<K: Sink> {
+    out: K,
     line: Vec<u8>,
     told: TraceLog,
     ghost room: { 192 ≤ vec_capacity line },
+    ghost logged: { ∥ IsLogOf K.Sink told.trace out ∥₁ },
 }
 
 impl<K: Sink + Drop> EndLog<K> {
@@ -31,6 +32,7 @@ impl<K: Sink + Drop> EndLog<K> {
     ///
     /// Own.
     pub fn new(alloc: Global, out: K) -> Result<EndLog<K>, NoMemory>
+        requires fresh { IsNewSink K.Sink out }
         ensures out { IfOk result (λ log. log.out ≡ out) }
         ensures nothing_yet { IfOk result (λ log. log.told.trace ≡ []) }
     {
@@ -42,25 +44,27 @@ impl<K: Sink + Drop> EndLog<K> {
             told: TraceLog::new(),
         })
     }
+}
 
-    /// Writes the line of an entry without bytes.
-    fn log(&mut self, entry: Entry)
-        ensures logged { TakesLine K.Sink (line_of (entry_words entry [])) self.old.out self.new.out }
-        ensures told { self.new.told ≡ self.old.told }
-    {
-        self.line.clear();
-        put_entry(&mut self.line, entry, &[]);
-        let _ = write_text(&mut self.out, &self.line);
-    }
+/// Writes the line of an entry without bytes.
+fn log<K: Sink>(out: &mut K, line: &mut Vec<u8>, entry: Entry)
+    requires { 192 ≤ vec_capacity line.old }
+    ensures logged { TakesLine K.Sink (line_of (entry_words entry [])) out.old out.new }
+    ensures room { 192 ≤ vec_capacity line.new }
+{
+    line.clear();
+    put_entry(line, entry, &[]);
+    let _ = write_text(out, line);
+}
 
-    /// Writes the line of the free of a side, and of no other entry.
-    fn log_end(&mut self, entry: Entry)
-        ensures logged { LogsEnd K.Sink entry self.old.out self.new.out }
-        ensures told { self.new.told ≡ self.old.told }
-    {
-        if let Entry::Freed { .. } = entry {
-            self.log(entry);
-        }
+/// Writes the line of the free of a side, and of no other entry.
+fn log_end<K: Sink>(out: &mut K, line: &mut Vec<u8>, entry: Entry)
+    requires { 192 ≤ vec_capacity line.old }
+    ensures logged { LogsEnd K.Sink entry out.old out.new }
+    ensures room { 192 ≤ vec_capacity line.new }
+{
+    if let Entry::Freed { .. } = entry {
+        log(out, line, entry);
     }
 }
 
@@ -94,7 +98,7 @@ impl<K: Sink + Drop> Scribe for EndLog<K> {
         ensures entries { 2 ^ 64 ≤ 2 ^ 64 + 1 }
         ensures bytes { 2 ^ 64 ≤ 2 ^ 64 + length bytes.now }
     {
-        self.log_end(entry);
+        log_end(&mut self.out, &mut self.line, entry);
         self.told = self.told.then(&LogStep { entry, bytes });
     }
 

@@ -23,5 +23,14 @@ fn main(rt: HostRuntime) -> ExitCode {
     let Ok(mut log) = EndLog::new(rt.alloc(), StdSink::new(rt.stderr())) else {
         return ExitCode::from(process_status(Status::Memory));
     };
-    ExitCode::from(run(&rt, rt.alloc(), words, &mut port, &mut sink, &mut log))
+    let mut errors = StdSink::new(rt.stderr());
+    ExitCode::from(run(
+        &rt,
+        rt.alloc(),
+        words,
+        &mut port,
+        &mut sink,
+        &mut log,
+        &mut errors,
+    ))
 }

@@ -1,9 +1,9 @@
-// All of the program but its words, its port and its streams.
+// The relay with its timeouts and its log.
 ghost use Rattle.std.specs.Prelude.{◌≡◌, [], map, string_bytes, option_map};
 ghost use Rattle.command_words.specs.ServeGrammar.{serve_words_of};
 ghost use Rattle.relay_serve.specs.Seen.{seen, drained};
 ghost use Rattle.relay_serve.specs.Served.{DidWith};
-ghost use Rattle.logging_relay.specs.EndLines.{patience, patient, LeavesBy};
+ghost use Rattle.logging_relay.specs.EndLines.{patience, patient, IsLogOf, LeavesBy};
 
 use crate::end_log::EndLog;
 use command_words::serve_words;
@@ -43,19 +43,22 @@ fn patient(route: Route) -> Route
 /// Relays as these words say, with timeouts, and logs each end. It may never return.
 ///
 /// Own.
-pub fn relay_logged<R: Wait, P: Port, K: Sink, E: Sink + Drop>(
+pub fn relay_logged<R: Wait, P: Port, K: Sink, L: Sink + Drop>(
     rt: &R,
     alloc: Global,
     words: &[String],
     port: &mut P,
     sink: &mut K,
-    log: &mut EndLog<E>,
+    log: &mut EndLog<L>,
 ) -> Status
     // What the call did: `relay_serve` says it of the words' addresses and settings, with those timeouts and no hooks.
     ensures did { DidWith (option_map patient (serve_words_of (map string_bytes words.now))) [] result
-        (seen P.Port ⟦<EndLog<E> as Scribe>⟧ (port.old, log.old)) (seen P.Port ⟦<EndLog<E> as Scribe>⟧ (port.new, log.new))
+        (seen P.Port ⟦<EndLog<L> as Scribe>⟧ (port.old, log.old)) (seen P.Port ⟦<EndLog<L> as Scribe>⟧ (port.new, log.new))
         (drained K.Sink sink.old) (drained K.Sink sink.new) }
     ensures leaves { LeavesBy K.Sink result port.old port.new log.old log.new sink.old sink.new }
+
+    // And the log is that of all entries.
+    ensures logged { ∥ IsLogOf L.Sink log.new.told.trace log.new.out ∥₁ }
 {
     match serve_words(alloc, words) {
         Ok(route) => relay(rt, alloc, &patient(route), Vec::new(alloc), port, log, sink),
