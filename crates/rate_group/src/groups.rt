@@ -108,6 +108,9 @@ impl Groups {
         ensures refused { Refuses result None }
         ensures value { self.new.value ≡ self.old.value }
         ensures ok { OnOk result (count ≤ self.new.spare) }
+
+        // With that much room to spare it isn't out of memory.
+        ensures succeeds { count ≤ self.old.spare → IsOk result }
         ensures room { self.old.spare ≤ self.new.spare }
     {
         self.members.reserve(count)?;

@@ -1,5 +1,5 @@
 // Opening links.
-ghost use Rattle.std.specs.Prelude.{◌≡◌, ◌+◌, ◌<◌, ◌≤◌, ◌||◌, nat_le, nat_lt, true, [], length, OnOk, IsOk};
+ghost use Rattle.std.specs.Prelude.{◌≡◌, ◌+◌, ◌<◌, ◌≤◌, ◌||◌, nat_le, nat_lt, true, length, OnOk, IsOk};
 ghost use Rattle.relay_state.specs.Opening.{after_opened};
 ghost use Rattle.relay_sides.specs.Opening.{limits_in};
 ghost use Rattle.relay_core.specs.Pairs.{HasPairs};
@@ -31,12 +31,12 @@ impl Relay {
         self.ctl.sides.opened() < self.ctl.settings.links
     }
 
-    /// Makes room for one link more, with its limits and memberships. Takes memory where there is no such room, and where there are groups;
-    /// constant, but where the room grows.
+    /// Makes room for one link more, with its limits and memberships. Takes no memory where there is such room; constant, but where
+    /// the room grows.
     pub fn reserve_link(&mut self) -> Result<(), NoMemory>
         ensures state { self.new.state ≡ self.old.state }
         ensures room { OnOk result (0 < self.new.spare_links) }
-        ensures there { 0 < self.old.spare_links → self.old.state.settings.groups ≡ [] → IsOk result }
+        ensures there { 0 < self.old.spare_links → IsOk result }
     {
         let ctl = &mut self.ctl;
         ctl.asks = MOST_ASKS;
@@ -94,8 +94,8 @@ fn reserve_rates(
     ensures more { spare.old ≤ spare.new }
     ensures limits { OnOk result (limits_in settings.now.in_rate + limits_in settings.now.out_rate ≤ spare.new) }
     ensures members { OnOk result (nat_le (length given.now.groups.items) 0 || nat_le 2 groups.new.spare ≡ true) }
-    ensures there { limits_in settings.now.in_rate + limits_in settings.now.out_rate ≤ spare.old → given.now.groups.items ≡ [] →
-        IsOk result }
+    ensures there { limits_in settings.now.in_rate + limits_in settings.now.out_rate ≤ spare.old →
+        nat_le (length given.now.groups.items) 0 || nat_le 2 groups.old.spare ≡ true → IsOk result }
 {
     spare.reserve(limits_of_link(settings))?;
     if !given.groups.is_empty() && groups.reserve_members(2).is_err() {
