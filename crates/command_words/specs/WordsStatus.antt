@@ -1,4 +1,6 @@
 -- How a program ends whose words are not taken.
+use Rattle.std.specs.declared.io.ErrorKind.{ErrorKind}
+use Rattle.std.specs.declared.io.ErrorKind.TheVariants.{OutOfMemory}
 use Rattle.ev_types.specs.declared.status.Status.{Status}
 use Rattle.ev_types.specs.declared.status.Status.TheVariants as status
 use Rattle.command_words.specs.declared.fault.WordsFault.{WordsFault}
@@ -14,3 +16,8 @@ status_of_words Memory = status.Memory
 abbrev pub words_status : BadWords → Status
 words_status words.NotText = status.Usage
 words_status words.Memory = status.Memory
+
+-- why the words can't be read, by the kind of the system's error
+abbrev pub bad_words : ErrorKind → BadWords
+bad_words OutOfMemory = words.Memory
+bad_words _ = words.NotText

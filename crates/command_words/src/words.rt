@@ -1,14 +1,15 @@
 // The words of a command line, as they come from the system.
-ghost use Rattle.std.specs.Prelude.{◌≡◌, ◌≢◌};
-ghost use Rattle.std.specs.declared.io.ErrorKind.TheVariants.{OutOfMemory};
+ghost use Rattle.std.specs.Prelude.{◌≡◌, Err, IfOk, IfErr, MatchResult, drop};
+ghost use Rattle.std.specs.IoError.{error_kind};
+ghost use Rattle.std.specs.Vec.Iter.{into_iter_items};
 ghost use Rattle.command_words.specs.declared.words.BadWords.TheVariants.{Memory};
-ghost use Rattle.command_words.specs.WordsStatus.{words_status};
+ghost use Rattle.command_words.specs.WordsStatus.{words_status, bad_words};
 
 use ev_types::Status;
-use std::alloc::{AllocError, AllocGlobal};
-use std::env;
-use std::env::Env;
+use std::alloc::{AllocError, AllocGlobal, Global};
+use std::env::{Args, Env};
 use std::io::ErrorKind;
+use std::{env, io};
 
 /// Why the words of a command line can't be read.
 ///
@@ -44,8 +45,7 @@ impl From<AllocError> for BadWords {
 ///
 /// Own.
 pub fn bad_words(kind: ErrorKind) -> BadWords
-    ensures memory { result ≡ BadWords.Memory → kind ≡ OutOfMemory }
-    ensures not_text { result ≡ BadWords.NotText → kind ≢ OutOfMemory }
+    ensures { result ≡ bad_words kind }
 {
     match kind {
         ErrorKind::OutOfMemory => BadWords::Memory,
@@ -57,8 +57,16 @@ pub fn bad_words(kind: ErrorKind) -> BadWords
 ///
 /// Own.
 pub fn program_words<R: Env + AllocGlobal>(rt: &R) -> Result<Vec<String>, BadWords> {
-    match env::args(rt) {
-        Ok(args) => Ok(args.skip(1).collect(rt.alloc())?),
+    words_behind_name(rt.alloc(), env::args(rt))
+}
+
+/// The words behind the first of these; `Memory` where there is none for them, and else why these can't be read.
+fn words_behind_name(alloc: Global, args: io::Result<Args>) -> Result<Vec<String>, BadWords>
+    ensures words { IfOk args (λ all. MatchResult result (λ words. words.items ≡ drop 1 (into_iter_items all)) (λ bad. bad ≡ Memory)) }
+    ensures unread { IfErr args (λ error. result ≡ Err (bad_words (error_kind error))) }
+{
+    match args {
+        Ok(args) => Ok(args.skip(1).collect(alloc)?),
         Err(error) => Err(bad_words(error.kind())),
     }
 }

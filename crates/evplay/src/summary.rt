@@ -1,10 +1,11 @@
 // What is told of the generated run: some numbers of its trace, and what its links came to.
 ghost use Rattle.std.specs.Prelude.{◌≡◌, ◌∷◌, [], IfOk, string_bytes};
 ghost use Rattle.script_text.specs.Lines.{line_of};
-ghost use Rattle.script_text.specs.ReportText.{count_of, same_state, total_words};
+ghost use Rattle.script_text.specs.ReportText.{total_words};
 ghost use Rattle.evplay.specs.Big.{number_line, summary_text};
 
 use ev_types::{LinkCount, LinkState, NoMemory};
+use script_text::count_links;
 use std::alloc::{AllocError, Global};
 use sum_scribe::SumScribe;
 
@@ -15,34 +16,13 @@ fn number_line(alloc: Global, word: &str, number: u64) -> Result<String, AllocEr
     format!(in alloc; "{word} {number}\n")
 }
 
-/// How many links came to this.
-fn count(links: &[LinkCount], state: LinkState) -> usize
-    ensures { result ≡ count_of state links.now }
-{
-    links
-        .iter()
-        .filter(|link| is_state(link.state, state))
-        .count()
-}
-
-fn is_state(state: LinkState, wanted: LinkState) -> bool
-    ensures { result ≡ same_state state wanted }
-{
-    matches!(
-        (state, wanted),
-        (LinkState::Done, LinkState::Done)
-            | (LinkState::Live, LinkState::Live)
-            | (LinkState::Gone, LinkState::Gone)
-    )
-}
-
 /// The line that counts the links by what they came to.
 fn total_line(alloc: Global, links: &[LinkCount]) -> Result<String, AllocError>
     ensures { IfOk result (λ text. string_bytes text ≡ line_of (total_words links.now)) }
 {
-    let done = count(links, LinkState::Done);
-    let live = count(links, LinkState::Live);
-    let gone = count(links, LinkState::Gone);
+    let done = count_links(links, LinkState::Done);
+    let live = count_links(links, LinkState::Live);
+    let gone = count_links(links, LinkState::Gone);
     format!(in alloc; "done {done} open {live} gone {gone}\n")
 }
 

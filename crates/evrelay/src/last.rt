@@ -6,7 +6,7 @@ ghost use Rattle.evrelay.specs.RingText.{ring_text};
 ghost use Rattle.evrelay.specs.RingWants.{AreOfSides, keep_last, kept_last, want_entry, word_wants, word_entries};
 
 use crate::lines::put_lines;
-use crate::want_lines::{put_words, want_entry};
+use crate::want_lines::{put_want_words, want_entry};
 use ev_port::{WantTable, WantWord};
 use ev_types::{Entry, NoMemory};
 use std::alloc::Global;
@@ -95,7 +95,7 @@ impl LastEntries {
             text.old text.new }
     {
         let passed = (self.many + self.older.len() + self.newer.len()).saturating_sub(KEPT);
-        let left = put_words(text, &self.words, passed);
+        let left = put_want_words(text, &self.words, passed);
         let (_, older) = self.older.split_at(left);
         put_lines(text, older);
         put_lines(text, &self.newer);

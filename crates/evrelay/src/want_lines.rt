@@ -26,7 +26,7 @@ pub(crate) fn want_entry(want: Want) -> Entry
 
 /// Appends the lines of the wants of words, the last word's first, but for the first so many, and answers how many of those
 /// were not there.
-pub(crate) fn put_words(text: &mut Vec<u8>, words: &[WantWord], passed: usize) -> usize
+pub(crate) fn put_want_words(text: &mut Vec<u8>, words: &[WantWord], passed: usize) -> usize
     requires sides { AreOfSides words.now }
     requires room { HasRoom text.old (room_of (length (word_wants words.now) - passed) 0) }
     ensures { SpeltBehind (word_entries words.now) passed result text.old text.new }
@@ -35,13 +35,13 @@ pub(crate) fn put_words(text: &mut Vec<u8>, words: &[WantWord], passed: usize) -
     let mut left = passed;
     while at > 0 {
         at -= 1;
-        left = put_word(text, &words[at], left);
+        left = put_want_word(text, &words[at], left);
     }
     left
 }
 
 /// The same of one word.
-fn put_word(text: &mut Vec<u8>, word: &WantWord, passed: usize) -> usize
+fn put_want_word(text: &mut Vec<u8>, word: &WantWord, passed: usize) -> usize
     requires sides { word.now.at < 2 ^ 27 }
     requires room { HasRoom text.old (room_of (length (word_rows word.now) - passed) 0) }
     ensures { SpeltBehind (map want_entry (word_rows word.now)) passed result text.old text.new }

@@ -135,13 +135,7 @@ impl Ctl {
         let spare = &mut self.spare_limits;
         self.sides
             .set_limit(side, cfg, self.time, self.turns, spare);
-        let asked = Entry::Asked {
-            side: self.me,
-            act: Act::Rate(side, cfg),
-            answer: AskAnswer::Ok,
-        };
-        self.log.push(asked).unwrap();
-        self.asks += 1;
+        self.record(Act::Rate(side, cfg), AskAnswer::Ok);
         Ok(())
     }
 

@@ -31,8 +31,8 @@ impl Relay {
         self.ctl.sides.opened() < self.ctl.settings.links
     }
 
-    /// Makes room for one link more, with its limits and memberships. Takes no memory where there is such room; constant, but where
-    /// the room grows.
+    /// Makes room for one link more, with its limits and memberships. It is also refused where 2^32 - 1 links were opened, and where
+    /// 2^30 - 1 are kept whole. Takes no memory where there is such room; constant, but where the room grows.
     pub fn reserve_link(&mut self) -> Result<(), NoMemory>
         ensures state { self.new.state ≡ self.old.state }
         ensures room { OnOk result (0 < self.new.spare_links) }

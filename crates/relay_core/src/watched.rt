@@ -37,7 +37,7 @@ impl Relay {
     }
 
     /// The links are watched no more whose sides wait for no moment, or for the next tick of a limit alone. Takes no memory; linear in the
-    /// links that are watched, and logarithmic in all links for each such tick; it looks at a word for each 64 links.
+    /// links that are watched, and logarithmic in all links for each such tick; it looks at a word for each 4,096 links.
     ///
     /// Own.
     pub fn forget_timeless(&mut self)

@@ -100,7 +100,7 @@ impl Agenda {
     }
 
     /// Something may have changed at each opened link of a set. Takes no memory; linear in the links of the set, and it looks at a word
-    /// for each 64 links.
+    /// for each 4,096 links.
     pub(crate) fn touch_each(&mut self, set: &NumberSet, opened: u32)
         requires pass { opened ≤ self.old.to_pass.len }
         requires close { opened ≤ self.old.to_close.len }

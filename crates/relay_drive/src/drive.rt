@@ -19,11 +19,9 @@ use crate::seats::{Seats, slots_taken};
 use crate::turn::next_turn;
 use ev_port::{Port, Scribe, WantTable};
 use relay_core::{Hook, LinkCount, RateGroups, Relay, Settings};
+use relay_sides::MOST_AT_ONCE;
 use std::alloc::Global;
 use std::marker::Model;
-
-/// The most bytes of one read.
-const MOST_READ: usize = 16_384;
 
 /// A relay that is driven over a port, turn by turn.
 ///
@@ -74,7 +72,7 @@ impl Drive {
             (λ fault. fault ≡ Memory) }
         ensures seated { IfOk result (λ drive. AreSeated drive.state seats.now.hooks.items seats.now.gone.items) }
     {
-        let Ok(inbox) = vec![in alloc; 0u8; MOST_READ] else {
+        let Ok(inbox) = vec![in alloc; 0u8; MOST_AT_ONCE] else {
             return Err(DriveFault::Memory);
         };
         let taken = slots_taken(alloc, &seats.hooks)?;

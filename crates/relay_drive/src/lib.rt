@@ -1,7 +1,7 @@
 //! The order of a turn: the port's calls, the changes of the relay that they lead to, and the entries of the trace. No
 //! rule on bytes stands here.
 //!
-//! A turn has seven phases: clock, time, poll, serve, dispatch, pass and close. Hooks are called in dispatch alone. A link at which
+//! A turn has seven phases: clock, begin, poll, serve, dispatch, pass and close. Hooks are called in dispatch alone. A link at which
 //! nothing is to be done is left alone.
 #![tactic(auto)]
 

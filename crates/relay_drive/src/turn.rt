@@ -28,9 +28,7 @@ use crate::serve::serve;
 use ev_port::{Port, Scribe};
 use ev_types::Entry;
 use relay_core::{Hook, Relay};
-
-/// The number of entries at which a trace is too long for another turn.
-const SPENT: u64 = 1 << 62;
+use relay_sides::SPENT;
 
 /// Reads the port's clock once.
 fn read_clock<P: Port, S: Scribe>(

@@ -52,8 +52,8 @@ fn left_of(sides: &Sides, near: SideId) -> Over
 }
 
 impl LinkPool {
-    /// Makes room for one link more: a bay that was given back, or a new one. It is also refused where 2^32 - 1 links were opened. Takes
-    /// memory where there is no such room; constant, but where the room grows.
+    /// Makes room for one link more: a bay that was given back, or a new one. It is also refused where 2^32 - 1 links were
+    /// opened, and where 2^30 - 1 bays are taken. Takes memory where there is no such room; constant, but where the room grows.
     ///
     /// Own.
     pub fn reserve_link(&mut self) -> Result<(), NoMemory>

@@ -23,14 +23,13 @@ mod words;
 mod write;
 
 pub use entry_text::put_entry;
-pub use ev_types::{
-    ByteList, LinkCount as LinkLine, Marks, PlanLine, Settings, Timeouts, TurnLine,
-};
+pub use ev_types::{ByteList, LinkCount, Marks, PlanLine, Settings, Timeouts, TurnLine};
 pub use laws::{
     lines_are_parted, numbers_are_decimal, phrase_has_its_words, refused_at_first_bad,
     trace_refused_at_first_bad, written_is_read,
 };
 pub use members::Members;
+pub use push::{put_end, put_last_number, put_number, put_word};
 pub use rate_group::GroupSet;
 pub use read::read_script;
 pub use room::{LINE_ROOM, make_room};
@@ -40,4 +39,4 @@ pub use value_words::filter_named;
 pub use words::{
     MAX_NUMBER, first_piece, hex_bytes, is_plain_text, is_word, number, told, words_of,
 };
-pub use write::{write_report, write_trace};
+pub use write::{count_links, write_report, write_trace};

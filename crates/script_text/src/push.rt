@@ -1,4 +1,4 @@
-// Puts words, numbers and bytes at the end of a text, in room that was made before. Takes no memory.
+// Puts words, numbers and bytes at the end of a text, in room that was made before. Takes no memory; linear in what is put.
 ghost use Rattle.std.specs.Prelude.{◌≡◌, ◌∷◌, [], ◌+◌, ◌*◌, ◌++◌, length};
 ghost use Rattle.std.specs.Fmt.{decimal};
 ghost use Rattle.hex.specs.Hex.{encode_lower};

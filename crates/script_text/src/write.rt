@@ -77,14 +77,15 @@ fn put_total(text: &mut Vec<u8>, links: &[LinkCount])
     ensures { GrewBy (line_of (total_words links.now)) (room_of 1 0) text.old text.new }
 {
     put_word(text, "done");
-    put_number(text, count(links, LinkState::Done) as u64);
+    put_number(text, count_links(links, LinkState::Done) as u64);
     put_word(text, "open");
-    put_number(text, count(links, LinkState::Live) as u64);
+    put_number(text, count_links(links, LinkState::Live) as u64);
     put_word(text, "gone");
-    put_last_number(text, count(links, LinkState::Gone) as u64);
+    put_last_number(text, count_links(links, LinkState::Gone) as u64);
 }
 
-fn count(links: &[LinkCount], state: LinkState) -> usize
+/// How many of the links came to this. Linear; takes no memory.
+pub fn count_links(links: &[LinkCount], state: LinkState) -> usize
     ensures { result ≡ count_of state links.now }
 {
     links

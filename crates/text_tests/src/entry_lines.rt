@@ -3,7 +3,7 @@ use ev_types::{
     Act, AskAnswer, Cause, ConnAnswer, Dir, Entry, Flags, LimitCfg, LinkState, ReadAnswer, Side,
     SideId, Tape, Why, WriteAnswer,
 };
-use script_text::{LinkLine, read_trace, write_report, write_trace};
+use script_text::{LinkCount, read_trace, write_report, write_trace};
 use std::alloc::Global;
 use std::test::Fail;
 
@@ -263,29 +263,29 @@ fn a_limit_is_spelled_by_its_numbers(rt: HostRuntime) -> Result<(), Fail> {
 }
 
 /// A link of each state.
-const LINKS: &[LinkLine] = &[
-    LinkLine {
+const LINKS: &[LinkCount] = &[
+    LinkCount {
         state: LinkState::Done,
         in_read: 5,
         in_given: 0,
         out_read: 0,
         out_given: 5,
     },
-    LinkLine {
+    LinkCount {
         state: LinkState::Live,
         in_read: 1,
         in_given: 2,
         out_read: 3,
         out_given: 4,
     },
-    LinkLine {
+    LinkCount {
         state: LinkState::Gone,
         in_read: 0,
         in_given: 0,
         out_read: 0,
         out_given: 0,
     },
-    LinkLine {
+    LinkCount {
         state: LinkState::Gone,
         in_read: 0,
         in_given: 0,

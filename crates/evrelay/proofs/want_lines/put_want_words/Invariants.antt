@@ -1,7 +1,7 @@
 use Rattle.std.proofs.Common.{◌≤◌, length, drop}
 use Rattle.evrelay.specs.RingText.{SpeltBehind}
 use Rattle.evrelay.specs.RingWants.{word_entries}
-use Rattle.evrelay.proofs.want_lines.put_words.Given as goal
+use Rattle.evrelay.proofs.want_lines.put_want_words.Given as goal
 
 -- The lines of the words from here on stand there.
 abbrev pub invariant-loop-at : goal.invariant-loop-at

@@ -2,7 +2,7 @@ use Rattle.std.proofs.Common.{map}
 use Rattle.ev_port.specs.WantWords.{word_rows_before}
 use Rattle.evrelay.specs.RingText.{SpeltBehind}
 use Rattle.evrelay.specs.RingWants.{want_entry}
-use Rattle.evrelay.proofs.want_lines.put_word.Given as goal
+use Rattle.evrelay.proofs.want_lines.put_want_word.Given as goal
 
 -- The lines of the wants of the first sides stand there.
 abbrev pub invariant-loop-bit : goal.invariant-loop-bit

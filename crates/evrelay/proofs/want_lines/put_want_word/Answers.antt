@@ -6,7 +6,7 @@ use Rattle.script_text.specs.Room.{HasRoom, room_of}
 use Rattle.evrelay.specs.RingText.{SpeltBehind}
 use Rattle.evrelay.specs.RingWants.{want_entry}
 use Rattle.evrelay.proofs.SpeltLemmas.{room-side, spelt-side, wanted}
-use Rattle.evrelay.proofs.want_lines.put_word.Goals as goal
+use Rattle.evrelay.proofs.want_lines.put_want_word.Goals as goal
 
 pub put_side-left-requires : goal.put_side-left-requires
 put_side-left-requires c =
