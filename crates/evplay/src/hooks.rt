@@ -1,5 +1,5 @@
 // The hooks of a run: of those that were handed in, the ones of sides for which the script plans something, each with its lines.
-ghost use Rattle.std.specs.Prelude.{◌≡◌, IfOk, OnOk};
+ghost use Rattle.std.specs.Prelude.{◌≡◌, ◌∷◌, ◌++◌, [], IfOk, OnOk};
 ghost use Rattle.std.specs.List.{All};
 ghost use Rattle.relay_drive.specs.Seats.{telling};
 ghost use Rattle.program_end.specs.Planned.{IsFresh};
@@ -16,7 +16,8 @@ pub const PLANNED_SIDES: usize = 64;
 pub fn hand_in(hooks: &mut Vec<Box<dyn Hook>>, hook: Box<dyn Hook>) -> Result<(), NoMemory>
     requires all { All (IsFresh (telling (λ h. heard h) (λ h. asked h) (λ h. planned h))) hooks.old.items }
     requires fresh { IsFresh (telling (λ h. heard h) (λ h. asked h) (λ h. planned h)) hook }
-    ensures { OnOk result (All (IsFresh (telling (λ h. heard h) (λ h. asked h) (λ h. planned h))) hooks.new.items) }
+    ensures handed { OnOk result (hooks.new.items ≡ hooks.old.items ++ hook ∷ []) }
+    ensures all { OnOk result (All (IsFresh (telling (λ h. heard h) (λ h. asked h) (λ h. planned h))) hooks.new.items) }
 {
     hooks.push(hook)?;
     Ok(())

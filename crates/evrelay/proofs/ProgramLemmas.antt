@@ -7,7 +7,7 @@ use Rattle.ev_port.specs.FaultCounts.{Rose}
 use Rattle.ev_port.specs.StreamBytes.{TookOn}
 use Rattle.ev_port.proofs.StreamLemmas.{TookOn-join}
 use Rattle.program_end.specs.Complains.{Complains, TookPart}
-use Rattle.program_end.specs.EndStatus.{complaint, status_number}
+use Rattle.program_end.specs.EndStatus.{complaint}
 use Rattle.program_end.proofs.ComplaintLemmas.{part-first, part-second}
 use Rattle.relay_drive.specs.Seats.{seated_sides}
 use Rattle.evrelay.specs.Program.{shows, said, Says}
@@ -16,20 +16,6 @@ use Rattle.evrelay.specs.RingText.{ring_text}
 -- where there are no hooks no side has one
 pub none-seated : {H : Type 0} (hooks : List (Option H)) → hooks ≡ [] → seated_sides hooks ≡ []
 none-seated hooks none = ap (λ z. seated_sides z) none
-
--- a process that ends with 0 ended well
-pub ended-well : (ended : Status) → status_number ended ≡ 0 → ended ≡ status.Ok
-ended-well status.Ok zero-is = refl
-ended-well status.Usage zero-is = absurd (cc)
-ended-well (status.BadScript line) zero-is = absurd (cc)
-ended-well status.ReadFault zero-is = absurd (cc)
-ended-well status.WriteFault zero-is = absurd (cc)
-ended-well status.PollFault zero-is = absurd (cc)
-ended-well (status.Stopped link turn) zero-is = absurd (cc)
-ended-well status.TooLong zero-is = absurd (cc)
-ended-well status.Memory zero-is = absurd (cc)
-ended-well status.OpenFault zero-is = absurd (cc)
-ended-well status.Spent zero-is = absurd (cc)
 
 -- the lines of the entries stand in front of that of the status
 said-shown : (ended : Status) (es : List Entry) → shows ended ≡ true → ring_text es ++ complaint ended ≡ said ended es

@@ -12,7 +12,7 @@ use ev_port::StdSink;
 use ev_types::Status;
 use mio_port::MioPort;
 use program::run;
-use program_end::process_status;
+use program_end::finish;
 use std::io;
 use std::process::ExitCode;
 
@@ -20,10 +20,10 @@ fn main(rt: HostRuntime) -> ExitCode {
     let words = program_words(&rt);
     let mut port = MioPort::new(&rt);
     let mut sink = StdSink::new(io::writer(&rt));
-    let Ok(mut log) = EndLog::new(rt.alloc(), StdSink::new(rt.stderr())) else {
-        return ExitCode::from(process_status(Status::Memory));
-    };
     let mut errors = StdSink::new(rt.stderr());
+    let Ok(mut log) = EndLog::new(rt.alloc(), StdSink::new(rt.stderr())) else {
+        return ExitCode::from(finish(&mut errors, Status::Memory));
+    };
     ExitCode::from(run(
         &rt,
         rt.alloc(),

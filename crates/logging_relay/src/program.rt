@@ -5,7 +5,7 @@ ghost use Rattle.command_words.specs.ServeGrammar.{serve_words_of};
 ghost use Rattle.command_words.specs.WordsStatus.{words_status};
 ghost use Rattle.program_end.specs.Complains.{Complains};
 ghost use Rattle.program_end.specs.EndStatus.{status_number};
-ghost use Rattle.relay_serve.specs.Seen.{seen, drained};
+ghost use Rattle.relay_serve.specs.Seen.{seen, drained, WasStopped};
 ghost use Rattle.relay_serve.specs.Served.{DidWith};
 ghost use Rattle.logging_relay.specs.EndLines.{patient, IsLogOf, LeavesBy};
 
@@ -34,6 +34,7 @@ fn run_by<R: Wait, P: Port, K: Sink, L: Sink + Drop, E: Sink>(
         × LeavesBy K.Sink ended port.old port.new log.old log.new sink.old sink.new
         × Complains ended (E.taken errors.old) (E.taken errors.new) (E.faults errors.old) (E.faults errors.new) }
     ensures logged { ∥ IsLogOf L.Sink log.new.told.trace log.new.out ∥₁ }
+    ensures stopped { result ≡ 0 → WasStopped P.Port }
 {
     let ended = relay_logged(rt, alloc, words, port, sink, log);
     finish(errors, ended)
@@ -65,6 +66,9 @@ pub fn run<R: Wait, P: Port, K: Sink, L: Sink + Drop, E: Sink>(
 
     // The log is that of the trace, which the scribe tells.
     ensures logged { ∥ IsLogOf L.Sink log.new.told.trace log.new.out ∥₁ }
+
+    // After a good end the port was told that no more links will be asked for.
+    ensures stopped { result ≡ 0 → WasStopped P.Port }
 {
     match words {
         Ok(words) => run_by(rt, alloc, &words, port, sink, log, errors),

@@ -1,7 +1,7 @@
 // The relay with its timeouts and its log.
 ghost use Rattle.std.specs.Prelude.{◌≡◌, [], map, string_bytes, option_map};
 ghost use Rattle.command_words.specs.ServeGrammar.{serve_words_of};
-ghost use Rattle.relay_serve.specs.Seen.{seen, drained};
+ghost use Rattle.relay_serve.specs.Seen.{seen, drained, WasStopped};
 ghost use Rattle.relay_serve.specs.Served.{DidWith};
 ghost use Rattle.logging_relay.specs.EndLines.{patience, patient, IsLogOf, LeavesBy};
 
@@ -56,6 +56,7 @@ pub fn relay_logged<R: Wait, P: Port, K: Sink, L: Sink + Drop>(
         (seen P.Port ⟦<EndLog<L> as Scribe>⟧ (port.old, log.old)) (seen P.Port ⟦<EndLog<L> as Scribe>⟧ (port.new, log.new))
         (drained K.Sink sink.old) (drained K.Sink sink.new) }
     ensures leaves { LeavesBy K.Sink result port.old port.new log.old log.new sink.old sink.new }
+    ensures stopped { result ≡ Status.Ok → WasStopped P.Port }
 
     // And the log is that of all entries.
     ensures logged { ∥ IsLogOf L.Sink log.new.told.trace log.new.out ∥₁ }

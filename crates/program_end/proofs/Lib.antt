@@ -3,3 +3,4 @@ pub mod ComplaintLemmas
 pub mod TurnCountLemmas
 pub mod PlannedLemmas
 pub mod StopLemmas
+pub mod StatusLemmas

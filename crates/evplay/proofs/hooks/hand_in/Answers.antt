@@ -5,8 +5,8 @@ use Rattle.program_end.specs.Planned.{IsFresh}
 use Rattle.evplay.proofs.HandedLemmas.{all-one}
 use Rattle.evplay.proofs.hooks.hand_in.Goals as goal
 
-pub returns : goal.returns
-returns g c =
+pub returns-clause-all : goal.returns-clause-all
+returns-clause-all g c =
     subst (All (IsFresh (telling (λ h. (goal.Hook-dyn g (h.vtable, h.value)).heard h.value)
     (λ h. (goal.Hook-dyn g (h.vtable, h.value)).asked h.value)
     (λ h. (goal.Hook-dyn g (h.vtable, h.value)).planned h.value)))) (sym c.in_ok-push.ensures.items)

@@ -9,7 +9,8 @@ use Rattle.relay_serve.specs.Seen.{drained}
 use Rattle.relay_serve.specs.Served.{DidWith}
 use Rattle.relay_serve.proofs.EndLemmas.{words-ended}
 use Rattle.evrelay.specs.Program.{seen_by}
-use Rattle.evrelay.proofs.ProgramLemmas.{none-seated, says-line, ended-well}
+use Rattle.evrelay.proofs.ProgramLemmas.{none-seated, says-line}
+use Rattle.program_end.proofs.StatusLemmas.{ended-well}
 use Rattle.evrelay.proofs.program.relay_by.Goals as goal
 
 -- There is no memory for the ring, and nothing was done.
