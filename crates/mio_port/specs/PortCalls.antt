@@ -3,6 +3,8 @@
 use Rattle.std.specs.Prelude.{◌≡◌, ◌≢◌, ◌⊎◌, ℕ, ◌+◌, ◌-◌, ◌*◌, ◌^◌, ⊤, Bool, true, false, ◌&&◌, List, [], ◌∷◌, map}
 use Rattle.std.specs.Prelude.{Option, Some, None, Result, Ok}
 use Rattle.std.specs.Prelude.{Err, MatchOption, slice_index_or}
+use Rattle.std.specs.declared.io.ErrorKind.{ErrorKind}
+use Rattle.std.specs.declared.io.ErrorKind.TheVariants as kind
 use Rattle.ev_types.specs.declared.addr.Addr.{Addr}
 use Rattle.ev_port.specs.declared.port.Accepted.{Accepted}
 use Rattle.ev_port.specs.declared.port.Accepted.TheVariants as accepted
@@ -32,6 +34,17 @@ Listens d at to started.Started =
     MatchOption d.listener ⊥ (ListensAt at) × MatchOption d.target ⊥ (λ target. addr_of target ≡ Some to)
 Listens d at to started.Failed = d.listener ≡ None
 Listens d at to started.NoMemory = d.listener ≡ None
+
+-- what a start answers that met an error of this kind
+abbrev pub start_refusal : ErrorKind → Started
+start_refusal kind.OutOfMemory = started.NoMemory
+start_refusal _ = started.Failed
+
+-- the listener behind a start with this answer: only one that failed is counted
+abbrev pub acceptor_after_start : Acceptor → Started → Acceptor
+acceptor_after_start d started.Started = d
+acceptor_after_start d started.Failed = faulty_acceptor d
+acceptor_after_start d started.NoMemory = d
 
 -- Polling
 

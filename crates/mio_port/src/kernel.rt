@@ -1,5 +1,6 @@
 // The kernel's reports: what is watched, how often it is asked, and what it told.
-ghost use Rattle.std.specs.Prelude.{◌≡◌, ◌<◌, ◌-◌, ◌^◌, ◌∷◌, [], true, false, is_some, is_ok, IfOk, OnOk};
+ghost use Rattle.std.specs.Prelude.{◌≡◌, ◌<◌, ◌-◌, ◌*◌, ◌^◌, ◌∷◌, [], true, false, is_some, is_ok, IfOk, OnOk, option_map};
+ghost use Rattle.std.specs.Duration.{as_nanos};
 ghost use Rattle.mio_port.specs.OneEnd.{fresh};
 ghost use Rattle.mio_port.specs.EndLeft.{AllHeard};
 ghost use Rattle.mio_port.specs.EndPlaces.{CountsStay};
@@ -139,9 +140,7 @@ impl Kernel {
     {
         self.skipped = 0;
         self.most = timeout;
-        let waited = self
-            .poll
-            .poll(&mut self.events, timeout.map(Duration::from_millis));
+        let waited = self.poll.poll(&mut self.events, wait_time(timeout));
         self.worked = waited.is_ok();
         waited
     }
@@ -165,6 +164,13 @@ impl Kernel {
             }
         }
     }
+}
+
+// So many milliseconds, as the system is told them.
+fn wait_time(most: Option<u64>) -> Option<Duration>
+    ensures { option_map as_nanos result ≡ option_map (λ ms. ms * 1000000) most }
+{
+    most.map(Duration::from_millis)
 }
 
 /// How long a poll may wait: not at all where something that is asked for is ready, and else as long as it was told, but where links

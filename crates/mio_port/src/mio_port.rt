@@ -2,6 +2,7 @@
 // each call of a port does with them, and which count of faults it raises.
 ghost use Rattle.std.specs.Prelude.{◌≡◌, ◌≢◌, ◌<◌, ◌≤◌, ◌+◌, ◌*◌, ⊤, [], true, false, length, is_none, is_some, None, Some};
 ghost use Rattle.std.specs.Prelude.{MatchResult, OnOk, option_map, slice_index_or};
+ghost use Rattle.std.specs.IoError.{error_kind};
 ghost use Rattle.std.specs.List.{list_any};
 ghost use Rattle.ev_types.specs.Sides.{number};
 ghost use Rattle.ev_port.specs.Counting.{risen_if};
@@ -24,7 +25,7 @@ ghost use Rattle.mio_port.specs.EndPlaces.{PlaceWent, all_handed_on, holds, more
 ghost use Rattle.mio_port.specs.Kernels.{watch_of, HasSpare};
 ghost use Rattle.mio_port.specs.Asking.{PollLooked};
 ghost use Rattle.mio_port.specs.PollLeft.{PollLeft};
-ghost use Rattle.mio_port.specs.PortCalls.{Listens, Marked, Accepts, MadeLink, AcceptorAsked};
+ghost use Rattle.mio_port.specs.PortCalls.{Listens, start_refusal, acceptor_after_start, Marked, Accepts, MadeLink, AcceptorAsked};
 ghost use Rattle.mio_port.specs.ReadTurns.{MarkedTable, SomeMarked, other_end};
 ghost use Rattle.mio_port.specs.PortFaults.{IsFaultless, mio_faults, vouches_nothing, waits_untold};
 
@@ -70,7 +71,7 @@ use std::time::Clock;
 /// Only `start` and `accept` take memory: `start` a table of reports, `accept` the places of the link's ends and of those
 /// of lower numbers that weren't made. No memory is given back before the port goes, and a number is never used again. Each
 /// call takes constant time, but `poll`, which is linear in the wants and the reports, `poll_table`, which is linear in the
-/// reports and in the wants that it marks, and looks at a word for each 64 numbers of sides, and `accept`, which is so over
+/// reports and in the wants that it marks, and passes over 4,096 numbers of sides at a time where none is in the set, and `accept`, which is so over
 /// a run of links that are numbered in turn.
 ///
 /// Own, over mio's `Poll`, `TcpListener` and `TcpStream`; libevent has it as event2/event.h, `EV_ET`, and event2/listener.h.
@@ -150,6 +151,21 @@ impl<'a, R: Net + Clock + AllocGlobal> MioPort<'a, R> {
         self.acceptor.open(listener?, socket_addr(to));
         Ok(())
     }
+
+    // What a start answers. One that failed is counted.
+    fn started(&mut self, made: io::Result<()>) -> Started
+        ensures answer { MatchResult made (λ _. result ≡ Started.Started) (λ error. result ≡ start_refusal (error_kind error)) }
+        ensures counted { self.new ≡ record self.old { acceptor = acceptor_after_start self.old.acceptor result } }
+    {
+        match made {
+            Ok(()) => Started::Started,
+            Err(error) if error.kind() == ErrorKind::OutOfMemory => Started::NoMemory,
+            Err(_) => {
+                self.acceptor.count_fault();
+                Started::Failed
+            }
+        }
+    }
 }
 
 /// What the trait leaves open, call by call:
@@ -223,14 +239,8 @@ impl<'a, R: Net + Clock + AllocGlobal> Port for MioPort<'a, R> {
         ensures told { StartedAt silent_port silent_port listen to }
         ensures vouched { LongerBy (vouches_nothing self.old) (vouches_nothing self.new) [] }
     {
-        match self.listen(listen, to) {
-            Ok(()) => Started::Started,
-            Err(error) if error.kind() == ErrorKind::OutOfMemory => Started::NoMemory,
-            Err(_) => {
-                self.acceptor.count_fault();
-                Started::Failed
-            }
-        }
+        let made = self.listen(listen, to);
+        self.started(made)
     }
 
     fn now(&mut self) -> u64
