@@ -113,14 +113,13 @@ impl Connection {
 }
 
 impl End {
-    /// An end that is connected or connecting. Nothing was reported of it yet.
-    pub(crate) fn open(socket: Socket) -> End
-        ensures { result ≡ fresh (Connection.Open socket) false }
+    fn fresh(connection: Connection, write_ready: bool) -> End
+        ensures { result ≡ fresh connection write_ready }
     {
         End {
-            connection: Connection::Open(socket),
+            connection,
             read_ready: false,
-            write_ready: false,
+            write_ready,
             hung_up: false,
             filled: false,
             bulky: false,
@@ -131,22 +130,18 @@ impl End {
         }
     }
 
+    /// An end that is connected or connecting. Nothing was reported of it yet.
+    pub(crate) fn open(socket: Socket) -> End
+        ensures { result ≡ fresh (Connection.Open socket) false }
+    {
+        End::fresh(Connection::Open(socket), false)
+    }
+
     /// An end whose connection could not be begun. It is ready for writing, so that it is checked.
     pub(crate) fn refused() -> End
         ensures { result ≡ fresh Connection.Refused true }
     {
-        End {
-            connection: Connection::Refused,
-            read_ready: false,
-            write_ready: true,
-            hung_up: false,
-            filled: false,
-            bulky: false,
-            came_short: false,
-            delayed: false,
-            ending: false,
-            faults: 0,
-        }
+        End::fresh(Connection::Refused, true)
     }
 
     pub(crate) fn is_read_ready(&self) -> bool
