@@ -1,5 +1,7 @@
 -- The listener: when it can be asked for a link, and after each call on it.
 use Rattle.std.specs.Prelude.{◌≡◌, ℕ, Bool, true, false, ◌&&◌, nat_le, is_none, Option, Some, None, if◌then◌else◌}
+use Rattle.std.specs.IoError.{error_kind, raw_os_error}
+use Rattle.std.specs.declared.io.Error.{Error}
 use Rattle.std.specs.declared.io.ErrorKind.{ErrorKind}
 use Rattle.std.specs.declared.io.ErrorKind.TheVariants as kind
 use Rattle.std.specs.declared.net.socket_addr.SocketAddr.TheVariants.{V4, V6}
@@ -12,6 +14,7 @@ use Rattle.mio_port.specs.declared.acceptor.NoLink.{NoLink}
 use Rattle.mio_port.specs.declared.acceptor.NoLink.TheVariants as no_link
 use Rattle.mio_port.specs.declared.acceptor.Acceptor.{Acceptor}
 use Rattle.mio_port.specs.declared.acceptor.Listener.{Listener}
+use Rattle.mio_port.specs.Scarcity.{is_scarce, came_broken}
 
 -- no listener, after so many faults
 abbrev pub shut_acceptor : ℕ → Acceptor
@@ -54,12 +57,17 @@ pub record AcceptorHeard (old new : Acceptor) (time : ℕ) : Type 0 where
   pub ready : old.ready ≡ true → new.ready ≡ true
   pub paused : new.paused_to ≡ pause_after old.paused_to time
 
--- what an error of an accept says: none waits, another may wait, the system is short of something, or it failed
-abbrev pub no_link_of_kind : ErrorKind → Bool → NoLink
-no_link_of_kind kind.WouldBlock scarce = no_link.NoneWaits
-no_link_of_kind kind.Interrupted scarce = no_link.Again
-no_link_of_kind kind.ConnectionAborted scarce = no_link.Again
-no_link_of_kind _ scarce = if scarce then no_link.Scarce else no_link.Failed
+-- what an error of an accept says, by its kind and by whether the system is short of something or the connection came broken: none
+-- waits, another may wait, the system is short, or it failed
+abbrev pub no_link_of_kind : ErrorKind → Bool → Bool → NoLink
+no_link_of_kind kind.WouldBlock scarce broken = no_link.NoneWaits
+no_link_of_kind kind.Interrupted scarce broken = no_link.Again
+no_link_of_kind kind.ConnectionAborted scarce broken = no_link.Again
+no_link_of_kind _ scarce broken = if scarce then no_link.Scarce else (if broken then no_link.Again else no_link.Failed)
+
+-- the same by the error itself
+abbrev pub no_link_of : Error → NoLink
+no_link_of error = no_link_of_kind (error_kind error) (is_scarce (raw_os_error error)) (came_broken (raw_os_error error))
 
 -- an IPv4 address with its port; no other address is told
 abbrev pub addr_of : SocketAddr → Option Addr

@@ -1,10 +1,9 @@
 // The listener, where its links are connected to, and when it can be asked for another link.
-ghost use Rattle.std.specs.Prelude.{◌≡◌, ◌∷◌, [], None, Some, is_none, true, false, Err, IfOk};
-ghost use Rattle.std.specs.IoError.{error_kind, raw_os_error};
-ghost use Rattle.mio_port.specs.Scarcity.{is_scarce};
-ghost use Rattle.mio_port.specs.Acceptor.{no_link_of_kind, addr_of, shut_acceptor, opened_acceptor, is_open, after_time, faulty_acceptor};
+ghost use Rattle.std.specs.Prelude.{◌≡◌, ◌∷◌, [], None, Some, is_none, is_some, true, false, Ok, Err, IfOk, MatchResult};
+ghost use Rattle.mio_port.specs.Acceptor.{no_link_of, addr_of, shut_acceptor, opened_acceptor, is_open, after_time, faulty_acceptor};
 
-use crate::scarce::is_scarce;
+use crate::kernel::Kernel;
+use crate::scarce::{came_broken, is_scarce};
 use crate::socket::{Socket, plain};
 use crate::socket_call::SocketCall;
 use crate::socket_log::SocketLog;
@@ -38,8 +37,8 @@ pub(crate) struct Acceptor {
     faults: u64,
 }
 
-/// Why the listener gave no connection. `Again` is one that went before it could be taken, or a call that was interrupted:
-/// another may wait.
+/// Why the listener gave no connection. `Again` is one that went before it could be taken or that came broken, or a call that was
+/// interrupted: another may wait.
 ///
 /// Own.
 #[derive(Clone, Copy)]
@@ -50,14 +49,25 @@ pub(crate) enum NoLink {
     Failed,
 }
 
-pub(crate) fn no_link_of(error: &io::Error) -> NoLink
-    ensures { result ≡ no_link_of_kind (error_kind error.now) (is_scarce (raw_os_error error.now)) }
+fn no_link_of(error: &io::Error) -> NoLink
+    ensures { result ≡ no_link_of error.now }
 {
     match error.kind() {
         ErrorKind::WouldBlock => NoLink::NoneWaits,
         ErrorKind::Interrupted | ErrorKind::ConnectionAborted => NoLink::Again,
         _ if is_scarce(error) => NoLink::Scarce,
+        _ if came_broken(error) => NoLink::Again,
         _ => NoLink::Failed,
+    }
+}
+
+/// What a call on the way to a link made, or why there is none.
+pub(crate) fn link_of<T>(outcome: io::Result<T>) -> Result<T, NoLink>
+    ensures { MatchResult outcome (λ made. result ≡ Ok made) (λ error. result ≡ Err (no_link_of error)) }
+{
+    match outcome {
+        Ok(made) => Ok(made),
+        Err(error) => Err(no_link_of(&error)),
     }
 }
 
@@ -198,17 +208,15 @@ impl Acceptor {
         self.faults = self.faults.saturating_add(1);
     }
 
-    /// Asks for a connection. It changes nothing here.
-    pub(crate) fn ask(&self) -> Result<Socket, NoLink>
+    /// Asks for a connection, while a descriptor is kept for its other end. It changes nothing here.
+    pub(crate) fn ask(&self, _kernel: &Kernel) -> Result<Socket, NoLink>
+        requires kept { is_some _kernel.now.spare ≡ true }
         ensures none { is_none self.now.listener ≡ true → result ≡ Err NoLink.NoneWaits }
         ensures came { IfOk result (λ socket. socket.log.calls ≡ (SocketCall.Came, []) ∷ []) }
     {
         let Some(listener) = &self.listener else {
             return Err(NoLink::NoneWaits);
         };
-        match Socket::came(&listener.socket) {
-            Ok(socket) => Ok(socket),
-            Err(error) => Err(no_link_of(&error)),
-        }
+        link_of(Socket::came(&listener.socket))
     }
 }

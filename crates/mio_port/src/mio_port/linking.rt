@@ -10,7 +10,7 @@ ghost use Rattle.mio_port.specs.PortCalls.{HasNoFault, IsNoLink, no_link_answer}
 ghost use Rattle.mio_port.specs.PortFaults.{mio_faults};
 
 use super::MioPort;
-use crate::acceptor::{NoLink, no_link_of};
+use crate::acceptor::{NoLink, link_of};
 use crate::end::End;
 use crate::ends::{in_end, out_end};
 use crate::kernel::Kernel;
@@ -51,18 +51,12 @@ impl<R: Net + Clock + AllocGlobal> MioPort<'_, R> {
         let Some(kernel) = &mut self.kernel else {
             return Err(NoLink::NoneWaits);
         };
-        if let Err(error) = kernel.keep_spare() {
-            return Err(no_link_of(&error));
-        }
-        let socket = self.acceptor.ask()?;
+        link_of(kernel.keep_spare())?;
+        let socket = self.acceptor.ask(kernel)?;
         let target = self.acceptor.target();
-        match kernel.end(socket, in_end(link).number()) {
-            Ok(inside) => {
-                let number = out_end(link).number();
-                Ok((inside, outside(self.rt, kernel, target, number)))
-            }
-            Err(error) => Err(no_link_of(&error)),
-        }
+        let inside = link_of(kernel.end(socket, in_end(link).number()))?;
+        let number = out_end(link).number();
+        Ok((inside, outside(self.rt, kernel, target, number)))
     }
 
     // No link is made.
