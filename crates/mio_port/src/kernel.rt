@@ -1,11 +1,13 @@
 // The kernel's reports: what is watched, how often it is asked, and what it told.
-ghost use Rattle.std.specs.Prelude.{◌≡◌, ◌<◌, ◌-◌, ◌*◌, ◌^◌, ◌∷◌, [], true, false, is_some, is_ok, IfOk, OnOk, option_map};
+ghost use Rattle.std.specs.Prelude.{◌≡◌, ◌<◌, ◌-◌, ◌*◌, ◌^◌, ◌∷◌, [], true, false, is_none, is_some, is_ok, IfErr, IfOk, OnOk, option_map};
+ghost use Rattle.std.specs.IoError.{raw_os_error};
 ghost use Rattle.std.specs.Duration.{as_nanos};
 ghost use Rattle.mio_port.specs.OneEnd.{fresh};
 ghost use Rattle.mio_port.specs.EndLeft.{AllHeard};
 ghost use Rattle.mio_port.specs.EndPlaces.{CountsStay};
-ghost use Rattle.mio.specs.Events.{items};
+ghost use Rattle.mio.specs.Events.{capacity, items};
 ghost use Rattle.mio_port.specs.Reports.{AsReported};
+ghost use Rattle.mio_port.specs.Scarcity.{is_scarce};
 ghost use Rattle.mio_port.specs.Sockets.{watched};
 ghost use Rattle.mio_port.specs.Waiting.{looks_after, is_due, longest_wait};
 
@@ -31,7 +33,8 @@ pub(crate) const LOOK_EVERY: u32 = 16;
 const LISTENER: Token = Token(usize::MAX);
 
 /// What is watched, how many polls went by since the kernel was last asked, how long the last wait was to last at most and whether it
-/// worked, and a descriptor that is kept for the second end of a link, whose first one may take the last.
+/// worked, and a descriptor that is kept for the second end of a link, whose first one may take the last. The table has room for a report
+/// at least, since the system refuses to wait with none.
 ///
 /// Own.
 #[derive(Drop)]
@@ -43,6 +46,7 @@ pub(crate) struct Kernel {
     worked: bool,
     spare: Option<Registry>,
     ghost below: { skipped < 16 },
+    ghost room: { 0 < capacity events },
 }
 
 impl Kernel {
@@ -91,21 +95,22 @@ impl Kernel {
         Ok(())
     }
 
-    /// Sees that there are descriptors for the two ends of a link, of which one is kept. It fails where the system has fewer.
-    pub(crate) fn keep_room(&mut self) -> io::Result<()>
+    /// Sees that there are descriptors for the two ends of a link: one is kept, and the other is the answer. It fails where the system has
+    /// fewer.
+    pub(crate) fn keep_room(&mut self) -> io::Result<Registry>
         ensures spare { OnOk result (is_some self.new.spare ≡ true) }
         ensures poll { self.new.poll ≡ self.old.poll }
         ensures skipped { self.new.skipped ≡ self.old.skipped }
         ensures most { self.new.most ≡ self.old.most }
     {
         self.keep_spare()?;
-        let _room_for_the_first = self.poll.registry().try_clone()?;
-        Ok(())
+        self.poll.registry().try_clone()
     }
 
     /// Begins a connection, by the descriptor that is kept where there is no other.
     pub(crate) fn connect<R: Net>(&mut self, rt: &R, to: SocketAddr) -> io::Result<Socket>
         ensures begun { IfOk result (λ socket. socket.log.calls ≡ (SocketCall.Began to, []) ∷ []) }
+        ensures given_up { IfErr result (λ error. is_scarce (raw_os_error error) ≡ true → is_none self.new.spare ≡ true) }
         ensures poll { self.new.poll ≡ self.old.poll }
         ensures skipped { self.new.skipped ≡ self.old.skipped }
         ensures most { self.new.most ≡ self.old.most }

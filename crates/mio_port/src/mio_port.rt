@@ -71,8 +71,8 @@ use std::time::Clock;
 /// Only `start` and `accept` take memory: `start` a table of reports, `accept` the places of the link's ends and of those
 /// of lower numbers that weren't made. No memory is given back before the port goes, and a number is never used again. Each
 /// call takes constant time, but `poll`, which is linear in the wants and the reports, `poll_table`, which is linear in the
-/// reports and in the wants that it marks, and passes over 4,096 numbers of sides at a time where none is in the set, and `accept`, which is so over
-/// a run of links that are numbered in turn.
+/// reports and in the wants that it marks, and passes over the numbers of sides, 4,096 at a time where none is in the set, and
+/// `accept`, which is so over a run of links that are numbered in turn.
 ///
 /// Own, over mio's `Poll`, `TcpListener` and `TcpStream`; libevent has it as event2/event.h, `EV_ET`, and event2/listener.h.
 /// Differs: a listener that found no descriptor is left alone for a while, where libevent's reports the error each time; and short writes
@@ -147,7 +147,7 @@ impl<'a, R: Net + Clock + AllocGlobal> MioPort<'a, R> {
         let listener = kernel.listen(self.rt, socket_addr(at));
         let room = kernel.keep_room();
         self.kernel = Some(kernel);
-        room?;
+        let _room_for_the_first = room?;
         self.acceptor.open(listener?, socket_addr(to));
         Ok(())
     }
@@ -182,14 +182,15 @@ impl<'a, R: Net + Clock + AllocGlobal> MioPort<'a, R> {
 /// - `poll_table` marks what `poll` would mark of the same wants, but of the bulky ends, those one of whose last two reads filled
 ///   its room, at most one for reading, in turns of 64 polls. While the turn stays, that end isn't read from a write to its
 ///   peer that came short until a poll finds that nothing waits for the peer, but where the peer can't be written. It waits
-///   as long. It doesn't go over the wants: it joins the table's sets of numbers and the port's, so what is wanted and isn't
-///   ready costs one word in 64 numbers.
+///   as long. It doesn't go over the wants: it joins the table's sets of numbers and the port's, and passes over 4,096 numbers
+///   at a time where none is in the set.
 /// - `accept` makes both ends with `TCP_NODELAY`. The Out end is never connected yet: its check decides, also where its
 ///   connection couldn't be begun. `NoMemory` comes before anything is accepted. `NotYet` comes for a link that was
-///   accepted before, where none waits, where one went before it was taken, and where the system is short of
-///   descriptors, buffers or memory: then no link is asked for until an end is closed or 100 ms passed, and a poll
-///   that asks for links waits no longer than that. Each other error is `Failed`, at the listener's count, and leaves the
-///   listener ready.
+///   accepted before, where none waits, where one went before it was taken or came with an error of the network, and where the
+///   system is short of descriptors, buffers or memory: then no link is asked for until an end is closed or 100 ms passed, and
+///   a poll that asks for links waits no longer than that. So it is too where the system can't watch a client that was accepted,
+///   for want of memory or since no more may be watched; that client is cut off. Each other error is `Failed`, at the listener's
+///   count, and leaves the listener ready.
 /// - `connect_state` is `Failed`, at the end's count, for a connection that was refused or that broke, and stays so.
 /// - `read` and `write` are `NotYet` where they would block or were interrupted, and at an end that was closed or never
 ///   made; a write that takes no byte is `Failed`, as is every other error. No signal comes of a peer that is gone.

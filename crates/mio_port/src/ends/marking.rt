@@ -52,7 +52,8 @@ impl Ends {
         }
     }
 
-    /// Something that a table wants can be done. Only the sets are looked at, 64 numbers at a time.
+    /// Something that a table wants can be done. Only the sets are looked at, and 4,096 numbers at a time are passed over
+    /// where none is in the set.
     pub(crate) fn is_any_of_table_ready(&self, wants: &WantTable) -> bool
         ensures { result ≡ list_any (wants_ready self.now.ends.items) (named wants.now) }
     {
