@@ -1,4 +1,4 @@
-// Puts words, numbers and bytes at the end of a text, in room that was made before. Takes no memory; linear in what is put.
+// Puts words, numbers and bytes at the end of a text, in room that was made before. Takes no memory.
 ghost use Rattle.std.specs.Prelude.{◌≡◌, ◌∷◌, [], ◌+◌, ◌*◌, ◌++◌, length};
 ghost use Rattle.std.specs.Fmt.{decimal};
 ghost use Rattle.hex.specs.Hex.{encode_lower};
@@ -9,7 +9,9 @@ use crate::value_text::side_text;
 use ev_types::SideId;
 use itoa::Buffer;
 
-/// A word, and the space behind it.
+/// A word, and the space behind it. Takes no memory; linear in the word.
+///
+/// Own.
 pub fn put_word(text: &mut Vec<u8>, word: &str)
     requires { HasRoom text.old (length word.now + 1) }
     ensures { GrewBy (spaced word.now) (length word.now + 1) text.old text.new }
@@ -27,7 +29,9 @@ pub fn put_last(text: &mut Vec<u8>, word: &str)
     text.push(b'\n').unwrap();
 }
 
-/// A number without a sign, and the space behind it.
+/// A number without a sign, and the space behind it. Takes no memory; constant.
+///
+/// Own.
 pub fn put_number(text: &mut Vec<u8>, number: u64)
     requires { HasRoom text.old 21 }
     ensures { GrewBy (spaced (decimal number)) 21 text.old text.new }
@@ -36,7 +40,9 @@ pub fn put_number(text: &mut Vec<u8>, number: u64)
     put_word(text, buffer.format(number));
 }
 
-/// A number that is the last word of a line.
+/// A number that is the last word of a line. Takes no memory; constant.
+///
+/// Own.
 pub fn put_last_number(text: &mut Vec<u8>, number: u64)
     requires { HasRoom text.old 21 }
     ensures { GrewBy (line_of (decimal number ∷ [])) 21 text.old text.new }
@@ -45,7 +51,9 @@ pub fn put_last_number(text: &mut Vec<u8>, number: u64)
     put_last(text, buffer.format(number));
 }
 
-/// The name of an end, a link and a side, and the space behind it.
+/// The name of an end, a link and a side, and the space behind it. Takes no memory; constant.
+///
+/// Own.
 pub fn put_end(text: &mut Vec<u8>, end: SideId)
     requires { HasRoom text.old 25 }
     ensures { GrewBy (spaced (decimal end.link) ++ spaced (side_word end.side)) 25 text.old text.new }

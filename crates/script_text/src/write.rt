@@ -84,7 +84,9 @@ fn put_total(text: &mut Vec<u8>, links: &[LinkCount])
     put_last_number(text, count_links(links, LinkState::Gone) as u64);
 }
 
-/// How many of the links came to this. Linear; takes no memory.
+/// How many of the links came to this. Takes no memory; linear in the links.
+///
+/// Own.
 pub fn count_links(links: &[LinkCount], state: LinkState) -> usize
     ensures { result ≡ count_of state links.now }
 {
