@@ -1,7 +1,9 @@
 // Runs of chains: calls in a row, each with what it answers, and many small pieces in a row.
 
 use crate::slices::join;
-use Act::{CopyOut, Drain, Extents, Len, Prepend, Pullup, PushCopy, PushRef, PushReserved, Ticket};
+use Act::{
+    CopyOut, Drain, Extents, Len, Prepend, Pullup, PushCopy, PushRef, PushReserved, Slices, Ticket,
+};
 use Answer::{Count, Done, No, Other, Shown};
 use Step::{AppendAll, First, Second, SplitFront};
 use evbuf_chain::{Chain, ChainFault};
@@ -22,6 +24,8 @@ enum Act {
     CopyOut(usize, &'static [u8]),
     Pullup(usize, &'static [u8]),
     Extents(usize, &'static [u8]),
+    /// In how many slices the first so many stand.
+    Slices(usize),
     Ticket,
 }
 
@@ -78,6 +82,13 @@ fn extents(chain: &Chain, n: usize, bytes: &[u8]) -> Result<Answer, ChainFault> 
     Ok(if same { Shown } else { Other })
 }
 
+fn slices(chain: &Chain, n: usize) -> Result<Answer, ChainFault> {
+    let extents = chain.extents(n)?;
+    let many = extents.len();
+    drop(extents);
+    Ok(Count(many as u64))
+}
+
 fn play(chain: &mut Chain, act: Act) -> Result<Answer, ChainFault> {
     match act {
         PushCopy(bytes) => chain.push_copy(bytes)?,
@@ -89,6 +100,7 @@ fn play(chain: &mut Chain, act: Act) -> Result<Answer, ChainFault> {
         CopyOut(from, bytes) => return Ok(copy_out(chain, from, bytes)),
         Pullup(n, bytes) => return Ok(chain.pullup(n)?.map_or(No, |found| shown(found, bytes))),
         Extents(n, bytes) => return extents(chain, n, bytes),
+        Slices(n) => return slices(chain, n),
         Ticket => return Ok(chain.take_released().map_or(No, Count)),
     }
     Ok(Done)
@@ -271,6 +283,32 @@ fn chunks_keep_their_order_as_they_move(rt: HostRuntime) {
     let mut first = Chain::new(rt.alloc());
     let mut second = Chain::new(rt.alloc());
     let wrong = first_wrong_step(&mut first, &mut second, MOVED);
+    drop(second);
+    drop(first);
+    assert_eq!(rt; wrong, None);
+}
+
+/// Bytes of a reference that is too long to be copied.
+const LONG: &[u8] = &[b'r'; 4_000];
+
+const SHARED: &[(Step, Answer)] = &[
+    (First(PushCopy(b"a")), Done),
+    (Second(PushRef(LONG, 1)), Done),
+    (Second(PushRef(LONG, 2)), Done),
+    (AppendAll, Done),
+    (First(Len), Count(8_001)),
+    (First(Slices(8_001)), Count(3)),
+    (First(Ticket), No),
+    (First(Drain(4_001)), Done),
+    (First(Ticket), Count(1)),
+    (First(Ticket), No),
+];
+
+#[test]
+fn references_are_moved_and_not_copied(rt: HostRuntime) {
+    let mut first = Chain::new(rt.alloc());
+    let mut second = Chain::new(rt.alloc());
+    let wrong = first_wrong_step(&mut first, &mut second, SHARED);
     drop(second);
     drop(first);
     assert_eq!(rt; wrong, None);
