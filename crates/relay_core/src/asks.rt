@@ -135,7 +135,15 @@ impl Ctl {
         let spare = &mut self.spare_limits;
         self.sides
             .set_limit(side, cfg, self.time, self.turns, spare);
-        self.record(Act::Rate(side, cfg), AskAnswer::Ok);
+
+        // Not by `record`: between the limit and the count of the ask there is a spare limit less than the invariant asks for.
+        let asked = Entry::Asked {
+            side: self.me,
+            act: Act::Rate(side, cfg),
+            answer: AskAnswer::Ok,
+        };
+        self.log.push(asked).unwrap();
+        self.asks += 1;
         Ok(())
     }
 

@@ -12,4 +12,4 @@ returns-in_err-reserve_rates-clause-there c = λ some.
     let is = c.ctl.view_is ∙ c.self.view_is in
     let room = rates-fit (has_room_for_rates r) r.sides.spare_links (subst (λ (z : RelayValue). 0 < z.spare_links) (sym is) some) in
     let limits : limits_in r.settings.in_rate + limits_in r.settings.out_rate ≤ r.spare_limits = grind (arith, nat_tests, room.0) in
-    absurd (let wrong = c.in_err-reserve_rates.ensures.there limits (grind (nat_tests, room.0)) in cc wrong)
+    absurd (let wrong = c.in_err-reserve_rates.ensures.there limits (grind (arith, nat_tests, room.0)) in cc wrong)
