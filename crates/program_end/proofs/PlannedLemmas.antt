@@ -1,19 +1,21 @@
 -- What planned hooks have told of a trace goes on with each turn, and so they asked as planned.
 use Rattle.std.proofs.Common.{◌≡◌, List, [], ◌++◌, Option, Some, None, refl, sym, ◌∙◌, ap, subst}
-use Rattle.std.proofs.Common.{◌≢◌, append-nil}
-use Rattle.std.specs.Prelude.{IfSome, MatchOption, IsSomeAnd}
+use Rattle.std.proofs.Common.{◌≢◌, ◌∷◌, append-nil, append_assoc, inl, inr}
+use Rattle.std.specs.Prelude.{IfSome, MatchOption, IsSomeAnd, ⊤}
 use Rattle.std.specs.Option.{option_or}
 use Rattle.ev_types.specs.declared.act.Act.{Act}
 use Rattle.ev_types.specs.declared.answer.AskAnswer.{AskAnswer}
+use Rattle.ev_types.specs.declared.entry.Entry.TheVariants as entry
 use Rattle.ev_types.specs.declared.plan_line.PlanLine.{PlanLine}
 use Rattle.ev_types.specs.declared.side.SideId.{SideId}
 use Rattle.ev_types.specs.declared.why.Why.{Why}
 use Rattle.ev_types.specs.Sides.{number}
 use Rattle.ev_types.specs.Trace.{Trace}
 use Rattle.relay_core.specs.Fires.{told_more, HasAskedByPlan}
-use Rattle.relay_model.specs.Hooked.{heard_in, asked_in, AskedAsPlanned}
+use Rattle.relay_model.specs.Answers.{TurnAnswer}
+use Rattle.relay_model.specs.Hooked.{heard_in, asked_in, AskedAsPlanned, AskPlanned}
 use Rattle.relay_model.specs.Plans.{IsPlanned}
-use Rattle.relay_drive.specs.Seats.{seat, hook_at, Telling, TellsMore, HooksTell, AreFresh}
+use Rattle.relay_drive.specs.Seats.{seat, hook_at, EndsInFire, Telling, TellsMore, HooksTell, HooksTellBut, AreFresh}
 use Rattle.relay_state.specs.State.{State}
 use Rattle.relay_drive.specs.declared.fault.DriveFault.{DriveFault}
 use Rattle.relay_drive.specs.declared.fault.DriveFault.TheVariants as fault
@@ -129,3 +131,24 @@ planned-cut plan f t a s new k cut h e =
     let v = unasked-in e a none in
     subst (λ xs. IsPlanned (plan e) xs (asked_in e (t ++ a))) (sym (x ∙ (λ i. heard_in e t ++ u i) ∙ append-nil (heard_in e t)))
     (subst (λ ps. IsPlanned (plan e) (heard_in e t) ps) (sym (y ∙ (λ i. asked_in e t ++ v i) ∙ append-nil (asked_in e t))) (h e))
+
+-- One that was cut off for want of memory: all was asked as planned, but in the fire of the hook that wanted memory.
+pub planned-short : {H : Type 0} (tells : Telling H) (plan : SideId → List PlanLine) (hooks gone hooks' gone' : List (Option H))
+    (t a : Trace) → AllToldOf tells plan hooks gone t → HooksTellBut tells hooks gone hooks' gone' a →
+    AskPlanned plan TurnAnswer.Memory (t ++ a)
+planned-short tells plan hooks gone hooks' gone' t a told but = go but.0 but.1 but.2
+  where
+    go : (short : Option SideId) → HooksTell tells short hooks gone hooks' gone' a →
+        MatchOption short ⊤ (λ e. EndsInFire tells e hooks gone a) → AskPlanned plan TurnAnswer.Memory (t ++ a)
+    go None h k =
+        inl (all_told-planned tells plan hooks' gone' (t ++ a) (all_told-more tells plan hooks gone hooks' gone' t a told h))
+    go (Some e) h k = inr (
+      t ++ k.before,
+      k.fire,
+      e,
+      k.reason,
+      ap (λ z. t ++ z) k.joined ∙ sym (append_assoc t k.before ((entry.Fired e k.reason, []) ∷ k.fire)),
+      k.within,
+      all_told-planned tells plan k.hooks_then k.gone_then (t ++ k.before)
+          (all_told-more tells plan hooks gone k.hooks_then k.gone_then t k.before told k.told),
+    )

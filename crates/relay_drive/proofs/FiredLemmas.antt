@@ -21,11 +21,11 @@ use Rattle.relay_steps.proofs.HookedSteps.{waits_are_hooked}
 use Rattle.relay_drive.specs.declared.run.Run.{Run}
 use Rattle.relay_drive.specs.DispatchPhase.{DispatchesAll, CutFire, CutDispatch}
 use Rattle.relay_drive.specs.DispatchPhase.CutFire.{no_room, in_fire}
-use Rattle.relay_drive.specs.Fired.{HasFired, FiredAs, FiresAny}
+use Rattle.relay_drive.specs.Fired.{HasFired, FiredAs, FiredBut, FiresAny}
 use Rattle.relay_drive.specs.Seats.{Telling, SeatFired}
 use Rattle.relay_drive.specs.Steps.{Then}
 use Rattle.relay_drive.proofs.GoesLemmas.{Grew-none, Grew-join}
-use Rattle.relay_drive.proofs.HookTells.{tells-none, tells-then, tells-but}
+use Rattle.relay_drive.proofs.HookTells.{tells-none, tells-then, tells-but, asks-within}
 use Rattle.relay_drive.proofs.SeatLemmas.{fires-more, seat-tells}
 
 -- no reason was fired yet
@@ -161,6 +161,27 @@ to-short b e s new a h = record {
 pub to-all : (s new : State) (a : Trace) → new.batch ≡ [] → length s.plain.due ≤ length s.settings.hooks → FiresAny s a new →
     DispatchesAll s a new
 to-all s new a over few h = record { does = record { many = h.0; fires = h.1; over = over }; few = few }
+
+-- A fire behind others cut dispatch off, since memory was wanting for its hook.
+pub fired-short : {H : Type 0} {tells : Telling H} {old m new : Run} {l l1 l' : Option Trace} {h0 g0 h1 g1 h2 g2 : List (Option H)}
+    (stopped : Bool) (e : SideId) → FiredAs tells None FiresAny old m l l1 h0 g0 h1 g1 →
+    FiredAs tells (Some e) (FiresAt stopped e) m new l1 l' h1 g1 h2 g2 → FiredBut tells CutDispatch old new l l' h0 g0 h2 g2
+unfolding fired-then fired-as
+fired-short {h1 = h1} {g1 = g1} stopped e before last =
+    let fire = last.does.0 in (
+      Some e,
+      fired-as (λ x q. to-short stopped e _ _ x q) (fired-then (Some e) before last),
+      record {
+        before = before.added;
+        reason = fire.reason;
+        fire = fire.behind;
+        joined = ap (λ z. before.added ++ z) (fire.entries ∙ ap (λ z. (entry.Fired z fire.reason, []) ∷ fire.behind) last.does.1);
+        within = asks-within fire.side fire.asks _ _ fire.behind fire.does;
+        hooks_then = h1;
+        gone_then = g1;
+        told = before.hooked;
+      },
+    )
 
 -- where nothing more changed
 pub fired-still : {H : Type 0} {tells : Telling H} {short : Option SideId} {R : State → Trace → State → Type 0} {old m new : Run}

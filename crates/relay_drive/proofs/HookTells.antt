@@ -1,21 +1,24 @@
 -- What hooks tell of a fire, of entries of which none is of a hook, and of one thing behind another.
 use Rattle.std.proofs.Common.{◌≡◌, ◌≢◌, ℕ, Bool, true, false, if◌then◌else◌, List, [], ◌∷◌, ◌++◌, Option, Some, None, refl, sym, ◌∙◌}
-use Rattle.std.proofs.Common.{ap, subst, append_assoc, append-nil}
-use Rattle.std.specs.Prelude.{MatchOption, IsSomeAnd, is_some}
+use Rattle.std.proofs.Common.{ap, subst, append_assoc, append-nil, ◌&&◌}
+use Rattle.std.specs.List.{list_all}
+use Rattle.std.proofs.lemmas.List.Folds.{list_all-append}
+use Rattle.std.specs.Prelude.{MatchOption, IsSomeAnd, is_some, ⊤}
 use Rattle.ev_types.specs.declared.act.Act.{Act}
 use Rattle.ev_types.specs.declared.act.Act.TheVariants as act
 use Rattle.ev_types.specs.declared.answer.AskAnswer.{AskAnswer}
 use Rattle.ev_types.specs.declared.answer.AskAnswer.TheVariants as ask
+use Rattle.ev_types.specs.declared.entry.Entry.TheVariants as entry
 use Rattle.ev_types.specs.declared.side.SideId.{SideId}
 use Rattle.ev_types.specs.declared.why.Why.{Why}
 use Rattle.ev_types.specs.Sides.{number, same_end}
 use Rattle.ev_types.specs.Trace.{Trace}
 use Rattle.relay_core.specs.Fires.{told_more}
 use Rattle.relay_model.proofs.EndLemmas.{number-eq, same_end-refl}
-use Rattle.relay_model.specs.Hooked.{heard_in, asked_in}
+use Rattle.relay_model.specs.Hooked.{heard_in, asked_in, is_within_fire}
 use Rattle.relay_state.specs.Asking.{ask_events, AsksAll, Fires}
 use Rattle.relay_state.specs.State.{State}
-use Rattle.relay_drive.specs.Seats.{seat, Telling, TellsMore, HooksTell, HooksTellBut}
+use Rattle.relay_drive.specs.Seats.{seat, EndsInFire, Telling, TellsMore, HooksTell, HooksTellBut}
 use Rattle.relay_drive.proofs.EndNames.{same_end-true, same_end-false}
 use Rattle.relay_drive.proofs.HookEvents.{IsUnhooked, heard_in-append, asked_in-append, unheard-in, unasked-in}
 
@@ -106,18 +109,31 @@ pub tells-but : {H : Type 0} (tells : Telling H) (short : Option SideId) (hooks 
     HooksTell tells None hooks gone hooks' gone' a → HooksTell tells short hooks gone hooks' gone' a
 tells-but tells short hooks gone hooks' gone' a h = record { more = λ e other. h.more e (λ p. absurd (cc)); kept = h.kept }
 
--- where memory was wanting for some hook or for none, in front of it or behind it
+-- what ends in a fire does so with entries in front of it
+ends-behind : {H : Type 0} (tells : Telling H) (short : Option SideId) (hooks gone hooks1 gone1 : List (Option H)) (a b : Trace) →
+    HooksTell tells None hooks gone hooks1 gone1 a → MatchOption short ⊤ (λ e. EndsInFire tells e hooks1 gone1 b) →
+    MatchOption short ⊤ (λ e. EndsInFire tells e hooks gone (a ++ b))
+ends-behind tells None hooks gone hooks1 gone1 a b h k = tt
+ends-behind tells (Some e) hooks gone hooks1 gone1 a b h k = record {
+  before = a ++ k.before;
+  reason = k.reason;
+  fire = k.fire;
+  joined = ap (λ z. a ++ z) k.joined ∙ sym (append_assoc a k.before ((entry.Fired e k.reason, []) ∷ k.fire));
+  within = k.within;
+  hooks_then = k.hooks_then;
+  gone_then = k.gone_then;
+  told = tells-then tells None hooks gone hooks1 gone1 k.hooks_then k.gone_then a k.before h k.told;
+}
+
+-- where memory was wanting for some hook or for none behind it
 pub tells-then_but : {H : Type 0} (tells : Telling H) (hooks gone hooks1 gone1 hooks2 gone2 : List (Option H)) (a b : Trace) →
     HooksTell tells None hooks gone hooks1 gone1 a → HooksTellBut tells hooks1 gone1 hooks2 gone2 b →
     HooksTellBut tells hooks gone hooks2 gone2 (a ++ b)
-tells-then_but tells hooks gone hooks1 gone1 hooks2 gone2 a b h k =
-    (k.0, tells-then tells k.0 hooks gone hooks1 gone1 hooks2 gone2 a b (tells-but tells k.0 hooks gone hooks1 gone1 a h) k.1)
-
-pub tells-but_then : {H : Type 0} (tells : Telling H) (hooks gone hooks1 gone1 hooks2 gone2 : List (Option H)) (a b : Trace) →
-    HooksTellBut tells hooks gone hooks1 gone1 a → HooksTell tells None hooks1 gone1 hooks2 gone2 b →
-    HooksTellBut tells hooks gone hooks2 gone2 (a ++ b)
-tells-but_then tells hooks gone hooks1 gone1 hooks2 gone2 a b h k =
-    (h.0, tells-then tells h.0 hooks gone hooks1 gone1 hooks2 gone2 a b h.1 (tells-but tells h.0 hooks1 gone1 hooks2 gone2 b k))
+tells-then_but tells hooks gone hooks1 gone1 hooks2 gone2 a b h k = (
+  k.0,
+  tells-then tells k.0 hooks gone hooks1 gone1 hooks2 gone2 a b (tells-but tells k.0 hooks gone hooks1 gone1 a h) k.1,
+  ends-behind tells k.0 hooks gone hooks1 gone1 a b h k.2,
+)
 
 -- A fire
 
@@ -133,6 +149,10 @@ one-says me e mine s (act.Free f) ask.Ok is =
 one-says me e mine s (act.Free f) r is =
     record { heard = refl; asked = ap (λ b. (if b then (act.Free f, r) ∷ [] else []) ++ []) is ∙ append-nil _ }
 one-says me e mine s x r is = record { heard = refl; asked = ap (λ b. (if b then (x, r) ∷ [] else []) ++ []) is ∙ append-nil _ }
+
+one-within : (me : SideId) (s : State) (x : Act) (r : AskAnswer) → list_all is_within_fire (ask_events me s x r) ≡ true
+one-within me s (act.Free f) ask.Ok = refl
+one-within me s x r = refl
 
 both-say : (me e : SideId) (mine : Bool) (xs ys : List (Act × AskAnswer)) (a b c : Trace) → Says me e mine xs a → Says me e mine ys b →
     c ≡ a ++ b → Says me e mine (xs ++ ys) c
@@ -156,6 +176,15 @@ all-say me e mine (x ∷ xs) s new a is h =
     let one : Says me e mine ((x.0, x.1) ∷ []) h.1 =
     subst (Says me e mine ((x.0, x.1) ∷ [])) (sym h.3.entries) (one-says me e mine s x.0 x.1 is) in
     both-say me e mine ((x.0, x.1) ∷ []) xs h.1 h.2 a one (all-say me e mine xs h.0 new h.2 is h.4) h.5
+
+-- what a hook asked stands within its fire
+pub asks-within : (me : SideId) (xs : List (Act × AskAnswer)) (s new : State) (a : Trace) → AsksAll me xs s a new →
+    list_all is_within_fire a ≡ true
+asks-within me [] s new a h = ap (list_all is_within_fire) h.0
+asks-within me (x ∷ xs) s new a h =
+    let one : list_all is_within_fire h.1 ≡ true = ap (list_all is_within_fire) h.3.entries ∙ one-within me s x.0 x.1 in
+    let more : list_all is_within_fire h.2 ≡ true = asks-within me xs h.0 new h.2 h.4 in
+    ap (list_all is_within_fire) h.5 ∙ list_all-append is_within_fire h.1 h.2 ∙ (λ i. one i && more i)
 
 -- what a fire says of a side: its own hook heard the reason and made its asks, and no other one did anything
 pub fire-heard : {stopped : Bool} {s new : State} {a : Trace} (e : SideId) (h : Fires stopped s a new) →

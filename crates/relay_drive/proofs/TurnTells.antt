@@ -21,7 +21,7 @@ use Rattle.relay_drive.proofs.FreedStays.{nothing-stays, passing-stays, closing-
 use Rattle.relay_drive.proofs.HookEvents.{IsUnhooked, Unhooks, nothing-unhooks, then-unhooks, ticks-unhook, polls_and_accepts-unhook}
 use Rattle.relay_drive.proofs.HookEvents.{serving-unhooks, serving_cut-unhooks, cut_polling-unhooks, passing-unhooks, passing_cut-unhooks}
 use Rattle.relay_drive.proofs.HookEvents.{closing-unhooks, closing_cut-unhooks}
-use Rattle.relay_drive.proofs.HookTells.{tells-none, tells-then, tells-then_but, tells-but_then}
+use Rattle.relay_drive.proofs.HookTells.{tells-none, tells-then, tells-then_but}
 use Rattle.relay_drive.proofs.MeantTurn.{prefix-stands}
 
 -- In front of dispatch
@@ -106,9 +106,13 @@ started-stands t s new a k h =
 
 -- What is told
 
--- what is told of some entries is told of them with others before or behind that are of no hook
+-- what is told of some entries is told of them with others in front that are of no hook
+abbrev GoesOn : (Trace → Type 0) → Type 0
+GoesOn T = (u v : Trace) → IsUnhooked u → T v → T (u ++ v)
+
+-- and with others behind
 record IsOfHooks (T : Trace → Type 0) : Type 0 where
-  before : (u v : Trace) → IsUnhooked u → T v → T (u ++ v)
+  before : GoesOn T
   behind : (u v : Trace) → T u → IsUnhooked v → T (u ++ v)
 
 all-of : {H : Type 0} (tells : Telling H) (h g h' g' : List (Option H)) → IsOfHooks (HooksTell tells None h g h' g')
@@ -117,13 +121,10 @@ all-of tells h g h' g' = record {
   behind = λ u v k is. tells-then tells None h g h' g' h' g' u v k (tells-none tells None h' g' v is);
 }
 
-but-of : {H : Type 0} (tells : Telling H) (h g h' g' : List (Option H)) → IsOfHooks (HooksTellBut tells h g h' g')
-but-of tells h g h' g' = record {
-  before = λ u v is k. tells-then_but tells h g h g h' g' u v (tells-none tells None h g u is) k;
-  behind = λ u v k is. tells-but_then tells h g h' g' h' g' u v k (tells-none tells None h' g' v is);
-}
+but-of : {H : Type 0} (tells : Telling H) (h g h' g' : List (Option H)) → GoesOn (HooksTellBut tells h g h' g')
+but-of tells h g h' g' = λ u v is k. tells-then_but tells h g h g h' g' u v (tells-none tells None h g u is) k
 
-served-told : (R : State → Trace → State → Type 0) (T : Trace → Type 0) → IsOfHooks T → (s new : State) (a : Trace) →
+served-told : (R : State → Trace → State → Type 0) (T : Trace → Type 0) → GoesOn T → (s new : State) (a : Trace) →
     Then Started (Told R T) s a new → Told (ServedThen R) T s a new
 served-told R T of s new a h = (
   started-then R s new a (record {
@@ -134,7 +135,7 @@ served-told R T of s new a h = (
     second = h.second.0;
     joined = h.joined;
   }),
-  subst T (sym h.joined) (of.before h.front h.back (started-unhooks s h.middle h.front h.first) h.second.1),
+  subst T (sym h.joined) (of h.front h.back (started-unhooks s h.middle h.front h.first) h.second.1),
 )
 
 told-then : (R Q : State → Trace → State → Type 0) (T : Trace → Type 0) → IsOfHooks T → Unhooks Q → (s new : State) (a : Trace) →
@@ -152,7 +153,7 @@ second-as h k = record { middle = h.middle; front = h.front; back = h.back; firs
 all-told : (R Q : State → Trace → State → Type 0) (T : Trace → Type 0) → IsOfHooks T → Unhooks Q → (s new : State) (a : Trace) →
     Then Started (Then (Told R T) Q) s a new → Told (ServedThen (Then R Q)) T s a new
 all-told R Q T of unhooks s new a h =
-    served-told (Then R Q) T of s new a (second-as h (told-then R Q T of unhooks h.middle new h.back h.second))
+    served-told (Then R Q) T of.before s new a (second-as h (told-then R Q T of unhooks h.middle new h.back h.second))
 
 finish-unhooks : Unhooks PassesAndCloses
 finish-unhooks = then-unhooks (ForAllLinks PassesLink) (ForAllLinks ClosesLink) passing-unhooks closing-unhooks
@@ -166,13 +167,14 @@ module _ {H : Type 0} (tells : Telling H) (hooks gone : List (Option H)) where
   -- a turn that is cut off in front of dispatch
   pub start-cut : (f : DriveFault) (s new : State) (a : Trace) → CutStart f s a new →
       Told (CutTurn f) (HooksTellBut tells hooks gone hooks gone) s a new
-  start-cut f s new a (begin_before h) = (before h, (None, tells-none tells None hooks gone a (nothing-unhooks s new a h)))
+  start-cut f s new a (begin_before h) = (before h, (None, tells-none tells None hooks gone a (nothing-unhooks s new a h), tt))
   start-cut f s new a (begin_in_poll reading h) = (
     in_poll reading h,
     (
       None,
       tells-none tells None hooks gone a
           (then-unhooks (Ticks reading) (CutPolling f) (ticks-unhook reading) (cut_polling-unhooks f) s new a h),
+      tt,
     ),
   )
   start-cut f s new a (begin_in_serving reading marked h) = (
@@ -182,6 +184,7 @@ module _ {H : Type 0} (tells : Telling H) (hooks gone : List (Option H)) where
       tells-none tells None hooks gone a
           (then-unhooks (Ticks reading) _ (ticks-unhook reading)
           (then-unhooks (PollsAndAccepts marked) _ (polls_and_accepts-unhook marked) (serving_cut-unhooks marked)) s new a h),
+      tt,
     ),
   )
 
@@ -196,7 +199,7 @@ module _ {H : Type 0} (tells : Telling H) (hooks gone : List (Option H)) where
   pub turn-stopped : (R : State → Trace → State → Type 0) (hooks' gone' : List (Option H)) (s new : State) (a : Trace) →
       Then Started (Told R (HooksTell tells None hooks gone hooks' gone')) s a new →
       Told (ServedThen R) (HooksTell tells None hooks gone hooks' gone') s a new
-  turn-stopped R hooks' gone' s new a h = served-told R _ (all-of tells hooks gone hooks' gone') s new a h
+  turn-stopped R hooks' gone' s new a h = served-told R _ (all-of tells hooks gone hooks' gone').before s new a h
 
   -- it is cut off behind dispatch
   pub finish-cut : (hooks' gone' : List (Option H)) (s new : State) (a : Trace) →
@@ -211,12 +214,12 @@ module _ {H : Type 0} (tells : Telling H) (hooks gone : List (Option H)) where
       go (inl k) =
           let told = all-told DispatchesAll (CutForAllLinks PassesLink CutPassingLink) _ of passing_cut-unhooks s new a
           (second-as h (second-as h.second k)) in
-          (in_passing told.0, (None, told.1))
+          (in_passing told.0, (None, told.1, tt))
       go (inr k) =
           let told = all-told DispatchesAll (Then (ForAllLinks PassesLink) (CutForAllLinks ClosesLink CutClosingLink)) _ of
           (then-unhooks (ForAllLinks PassesLink) _ passing-unhooks closing_cut-unhooks) s new a
           (second-as h (second-as h.second k)) in
-          (in_closing told.0, (None, told.1))
+          (in_closing told.0, (None, told.1, tt))
 
   -- it goes through all its phases
   pub turn-told : (hooks' gone' : List (Option H)) (s new : State) (a : Trace) →

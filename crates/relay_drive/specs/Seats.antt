@@ -1,16 +1,19 @@
 -- The hooks of a drive: each in its slot, or out of it for good once its side was freed; and what they tell of a turn.
 use Rattle.std.specs.Prelude.{◌≡◌, ◌≢◌, ◌<◌, ℕ, Bool, true, false, List, [], ◌∷◌, length, map, slice_index_or, slice_set, if◌then◌else◌}
+use Rattle.std.specs.Prelude.{◌++◌, ⊤}
+use Rattle.std.specs.List.{list_all}
 use Rattle.std.specs.Prelude.{Option, Some, None, MatchOption}
 use Rattle.std.specs.Prelude.{IsSomeAnd, is_some}
 use Rattle.std.specs.Option.{option_or}
 use Rattle.ev_types.specs.declared.act.Act.{Act}
 use Rattle.ev_types.specs.declared.answer.AskAnswer.{AskAnswer}
+use Rattle.ev_types.specs.declared.entry.Entry.TheVariants as entry
 use Rattle.ev_types.specs.declared.plan_line.PlanLine.{PlanLine}
 use Rattle.ev_types.specs.declared.side.SideId.{SideId}
 use Rattle.ev_types.specs.declared.why.Why.{Why}
 use Rattle.ev_types.specs.Sides.{number}
 use Rattle.ev_types.specs.Trace.{Trace}
-use Rattle.relay_model.specs.Hooked.{heard_in, asked_in}
+use Rattle.relay_model.specs.Hooked.{heard_in, asked_in, is_within_fire}
 use Rattle.relay_model.specs.Plain.{is_live, sides_where}
 use Rattle.relay_model.specs.Reasons.{has_hook}
 use Rattle.relay_state.specs.State.{State}
@@ -55,9 +58,23 @@ pub record HooksTell {H : Type 0} (tells : Telling H) (short : Option SideId) (h
       (λ was. IsSomeAnd (seat hooks' gone' (number e)) (λ now. TellsMore tells was now (heard_in e added) (asked_in e added)))
   pub kept : (e : SideId) → is_some (seat hooks' gone' (number e)) ≡ is_some (seat hooks gone (number e))
 
--- of a turn that was cut off, for some side or none
+-- Entries end with the fire of a side, whose hook wanted memory: up to that fire all hooks tell what the entries say, and those behind its
+-- first one are of what the hook asked.
+pub record EndsInFire {H : Type 0} (tells : Telling H) (e : SideId) (hooks gone : List (Option H)) (added : Trace) : Type 0 where
+  pub before : Trace
+  pub reason : Why
+  pub fire : Trace
+  pub joined : added ≡ before ++ (entry.Fired e reason, []) ∷ fire
+  pub within : list_all is_within_fire fire ≡ true
+  pub hooks_then : List (Option H)
+  pub gone_then : List (Option H)
+  pub told : HooksTell tells None hooks gone hooks_then gone_then before
+
+-- of a turn that was cut off, for some side, in whose fire it was, or for none
 abbrev pub HooksTellBut : {H : Type 0} → Telling H → List (Option H) → List (Option H) → List (Option H) → List (Option H) → Trace → Type 0
-HooksTellBut tells hooks gone hooks' gone' added = (short : Option SideId) × HooksTell tells short hooks gone hooks' gone' added
+HooksTellBut tells hooks gone hooks' gone' added =
+    (short : Option SideId) × HooksTell tells short hooks gone hooks' gone' added
+    × MatchOption short ⊤ (λ e. EndsInFire tells e hooks gone added)
 
 -- Whether there is a hook in each slot.
 abbrev pub slots_taken : {H : Type 0} → List (Option H) → List Bool

@@ -4,12 +4,15 @@ use Rattle.std.proofs.Common.{append-nil, count_by, arith, Result, Err, Option, 
 use Rattle.std.specs.Prelude.{⊤}
 use Rattle.ev_types.specs.declared.plan_line.PlanLine.{PlanLine}
 use Rattle.ev_types.specs.declared.side.SideId.{SideId}
+use Rattle.ev_types.specs.declared.status.Status.{Status}
+use Rattle.ev_types.specs.declared.status.Status.TheVariants as status
 use Rattle.ev_types.specs.Growth.{Grew}
 use Rattle.ev_types.specs.Told.{EndTold, PortTold}
 use Rattle.ev_types.specs.Trace.{Trace}
 use Rattle.ev_port.specs.declared.port.Port as port
 use Rattle.ev_port.specs.declared.scribe.Scribe as scribe
 use Rattle.relay_model.specs.Answers.{TurnAnswer}
+use Rattle.relay_model.specs.Hooked.{AskPlanned, AskedAsPlanned}
 use Rattle.relay_model.specs.RatesKept.{is_turn}
 use Rattle.relay_model.specs.Settings.{Settings, settings_with}
 use Rattle.relay_model.specs.Stages.{Stage}
@@ -30,13 +33,14 @@ use Rattle.relay_drive.specs.declared.fault.TurnEnd.TheVariants as end
 use Rattle.relay_drive.specs.DriveStands.{DriveStands, DriveWent, StandsBetween, turn_answer_of, turn_end_of}
 use Rattle.relay_drive.specs.DriveValue.{DriveValue, is_worn}
 use Rattle.relay_drive.specs.Known.{Point, Question, IsClosedSince}
-use Rattle.relay_drive.specs.Seats.{Telling, HooksTell, AreFresh}
+use Rattle.relay_drive.specs.Seats.{Telling, HooksTell, HooksTellBut, AreFresh}
 use Rattle.relay_drive.specs.Moves.{knows}
 use Rattle.relay_drive.specs.Phases.{CutTurn, in_poll, CutPolling, is_open_fault}
 use Rattle.relay_drive.proofs.HookEvents.{asks_fit-none}
 use Rattle.relay_drive.proofs.GoesLemmas.{Grew-none, Grew-join, Heard-none, Heard-join}
+use Rattle.program_end.specs.EndStatus.{status_of}
 use Rattle.program_end.specs.Planned.{HavePlans, AllToldOf}
-use Rattle.program_end.proofs.PlannedLemmas.{all_told-none, all_told-more, all_told-planned, planned-cut}
+use Rattle.program_end.proofs.PlannedLemmas.{all_told-none, all_told-more, all_told-planned, planned-cut, planned-short}
 use Rattle.program_end.proofs.TurnCountLemmas.{BeginsOnce, count-append}
 use Rattle.relay_serve.specs.Seen.{Seen, seen}
 use Rattle.relay_serve.specs.Served.{turns_told, HasWork, LeavesClosed, AskedByPlans}
@@ -257,22 +261,40 @@ told-on tells first hooks gone hooks' gone' t a u is told more plan have =
     subst (λ z. AllToldOf tells plan hooks' gone' z) (sym is) (all_told-more tells plan hooks gone hooks' gone' t a (told plan have) more)
 
 -- so they asked as planned where no turn was cut off
-pub asked-told : {H : Type 0} (tells : Telling H) (first hooks gone : List (Option H)) (t : Trace) (old new : Option Trace) →
-    Grew old new t →
-    AllTold tells first hooks gone t → AskedByPlans tells first old new
-asked-told tells first hooks gone t old new grew told =
-    (t, grew, (λ plan have. all_told-planned tells plan hooks gone t (told plan have)))
-
--- and where one was for another cause than want of memory
-pub asked-cut : {H : Type 0} (tells : Telling H) (first hooks gone : List (Option H)) (f : DriveFault) (t a : Trace) (s s' : State)
-    (old new : Option Trace) →
-    Grew old new (t ++ a) → f ≢ fault.Memory → CutTurn f s a s' → AllTold tells first hooks gone t → AskedByPlans tells first old new
-asked-cut tells first hooks gone f t a s s' old new grew k cut told = (
-  t ++ a,
+pub asked-told : {H : Type 0} (tells : Telling H) (ended : Status) (first hooks gone : List (Option H)) (t : Trace)
+    (old new : Option Trace) → Grew old new t → AllTold tells first hooks gone t → AskedByPlans tells ended first old new
+asked-told tells ended first hooks gone t old new grew told = (
+  t,
   grew,
-  (λ plan have. planned-cut plan f t a s s' k cut (all_told-planned tells plan hooks gone t (told plan have))),
+  (λ plan have. let all = all_told-planned tells plan hooks gone t (told plan have) in (inl all, λ lasted. all)),
 )
 
+-- and where one was, but in a fire that was cut off for want of memory
+pub asked-cut : {H : Type 0} (tells : Telling H) (first hooks gone hooks' gone' : List (Option H)) (f : DriveFault) (t a : Trace)
+    (s s' : State) (old new : Option Trace) → Grew old new (t ++ a) → CutTurn f s a s' → HooksTellBut tells hooks gone hooks' gone' a →
+    AllTold tells first hooks gone t → AskedByPlans tells (status_of f) first old new
+asked-cut tells first hooks gone hooks' gone' f t a s s' old new grew cut but told =
+    (t ++ a, grew, (λ plan have. go f plan (told plan have) cut))
+  where
+    whole : (f : DriveFault) (plan : SideId → List PlanLine) → f ≢ fault.Memory → AllToldOf tells plan hooks gone t → CutTurn f s a s' →
+        AskPlanned plan TurnAnswer.Memory (t ++ a) × (status_of f ≢ status.Memory → AskedAsPlanned plan (t ++ a))
+    whole f plan far all cut =
+        let asked = planned-cut plan f t a s s' far cut (all_told-planned tells plan hooks gone t all) in (inl asked, λ lasted. asked)
+
+    go : (f : DriveFault) (plan : SideId → List PlanLine) → AllToldOf tells plan hooks gone t → CutTurn f s a s' →
+        AskPlanned plan TurnAnswer.Memory (t ++ a) × (status_of f ≢ status.Memory → AskedAsPlanned plan (t ++ a))
+    go fault.Memory plan all cut = (planned-short tells plan hooks gone hooks' gone' t a all but, λ lasted. absurd (lasted refl))
+    go fault.PollFault plan all cut = whole fault.PollFault plan (λ e. absurd (cc e)) all cut
+    go fault.OpenFault plan all cut = whole fault.OpenFault plan (λ e. absurd (cc e)) all cut
+    go fault.Spent plan all cut = whole fault.Spent plan (λ e. absurd (cc e)) all cut
+
 -- nothing was asked where nothing was put
-pub asked-nothing : {H : Type 0} (tells : Telling H) (first : List (Option H)) (old : Option Trace) → AskedByPlans tells first old old
-asked-nothing tells first old = ([], Grew-none old, (λ plan have e. refl))
+pub asked-nothing : {H : Type 0} (tells : Telling H) (ended : Status) (first : List (Option H)) (old : Option Trace) →
+    AskedByPlans tells ended first old old
+asked-nothing tells ended first old = ([], Grew-none old, (λ plan have. (inl (λ e. refl), λ lasted e. refl)))
+
+-- a report may run out of memory behind a run, and where it doesn't the run didn't
+pub asked-reported : {H : Type 0} (tells : Telling H) (ended result : Status) (first : List (Option H)) (old new : Option Trace) →
+    (result ≢ status.Memory → ended ≢ status.Memory) → AskedByPlans tells ended first old new → AskedByPlans tells result first old new
+asked-reported tells ended result first old new lasts h =
+    (h.0, h.1, (λ plan have. let k = h.2 plan have in (k.0, λ lasted. k.1 (lasts lasted))))

@@ -16,7 +16,7 @@ use Rattle.ev_port.specs.Calls.{StartedAt}
 use Rattle.ev_port.specs.EndSteps.{AllWent, no_step}
 use Rattle.script_text.specs.ReportText.{report_text}
 use Rattle.relay_model.specs.Answers.{TurnAnswer}
-use Rattle.relay_model.specs.Hooked.{AskedAsPlanned}
+use Rattle.relay_model.specs.Hooked.{AskPlanned, AskedAsPlanned}
 use Rattle.relay_model.specs.RatesKept.{is_turn}
 use Rattle.relay_model.specs.Settings.{Settings, settings_with}
 use Rattle.relay_model.specs.Tied.{IsTied}
@@ -132,7 +132,8 @@ DidWith None hooks ended old new before after = ((ended ≡ status.Usage) ⊎ (e
 DidWith (Some route) hooks ended old new before after = Did route hooks ended old new before after
 
 -- The scribe was given these entries. By them each hook that told a plan, and was called for nothing before, asked what the plan has for
--- what the hook heard.
-abbrev pub AskedByPlans : {H : Type 0} → Telling H → List (Option H) → Option Trace → Option Trace → Type 0
-AskedByPlans tells hooks old new =
-    (t : Trace) × Grew old new t × ((plan : SideId → List PlanLine) → HavePlans tells plan hooks → AskedAsPlanned plan t)
+-- what the hook heard; but where memory ran out, a last fire may have been cut off in which its hook asked anything.
+abbrev pub AskedByPlans : {H : Type 0} → Telling H → Status → List (Option H) → Option Trace → Option Trace → Type 0
+AskedByPlans tells ended hooks old new =
+    (t : Trace) × Grew old new t × ((plan : SideId → List PlanLine) → HavePlans tells plan hooks →
+    AskPlanned plan TurnAnswer.Memory t × (ended ≢ status.Memory → AskedAsPlanned plan t))

@@ -61,9 +61,9 @@ fn make_turns<R: Wait, P: Port, S: Scribe>(
     requires fresh { AreFresh seats.old.hooks.items seats.old.gone.items }
     ensures went { TurnsGo P.Port S.Scribe result (drive.old, port.old, scribe.old) (drive.new, port.new, scribe.new) }
     ensures stopped { result ≡ Ok ServeEnd.ServedOut → WasStopped P.Port }
-    ensures asked { ended_as result ≢ Status.Memory → AskedByPlans
+    ensures asked { AskedByPlans
         (telling (λ h. heard (h.vtable, h.value)) (λ h. asked (h.vtable, h.value)) (λ h. planned (h.vtable, h.value)))
-        seats.old.hooks.items (S.trace scribe.old) (S.trace scribe.new) }
+        (ended_as result) seats.old.hooks.items (S.trace scribe.old) (S.trace scribe.new) }
 {
     let mut turns = 0u32;
     let mut told = false;
@@ -97,9 +97,9 @@ fn run<R: Wait, P: Port, S: Scribe>(
     ensures ran { RanTo route.now (seated_sides seats.old.hooks.items) (ended_as result) (seen P.Port S.Scribe (port.old, scribe.old))
         (seen P.Port S.Scribe (port.new, scribe.new)) drive.new.state }
     ensures stopped { result ≡ Ok ServeEnd.ServedOut → WasStopped P.Port }
-    ensures asked { ended_as result ≢ Status.Memory → AskedByPlans
+    ensures asked { AskedByPlans
         (telling (λ h. heard (h.vtable, h.value)) (λ h. asked (h.vtable, h.value)) (λ h. planned (h.vtable, h.value)))
-        seats.old.hooks.items (S.trace scribe.old) (S.trace scribe.new) }
+        (ended_as result) seats.old.hooks.items (S.trace scribe.old) (S.trace scribe.new) }
 {
     match port.start(route.listen, route.to) {
         Started::Started => make_turns(rt, &route.settings, drive, seats, port, scribe),
@@ -122,9 +122,9 @@ fn relay_seated<R: Wait, P: Port, S: Scribe, K: Sink>(
     ensures did { Did route.now (seated_sides seats.old.hooks.items) result (seen P.Port S.Scribe (port.old, scribe.old))
         (seen P.Port S.Scribe (port.new, scribe.new)) (drained K.Sink sink.old) (drained K.Sink sink.new) }
     ensures stopped { result ≡ Status.Ok → WasStopped P.Port }
-    ensures asked { result ≢ Status.Memory → AskedByPlans
+    ensures asked { AskedByPlans
         (telling (λ h. heard (h.vtable, h.value)) (λ h. asked (h.vtable, h.value)) (λ h. planned (h.vtable, h.value)))
-        seats.old.hooks.items (S.trace scribe.old) (S.trace scribe.new) }
+        result seats.old.hooks.items (S.trace scribe.old) (S.trace scribe.new) }
     ensures write_calm { result ≢ WriteFault → K.faults sink.new ≡ K.faults sink.old }
     ensures unwritten { result ≡ Status.Memory → sink.new ≡ sink.old }
 {
@@ -158,9 +158,10 @@ pub fn relay<R: Wait, P: Port, S: Scribe, K: Sink>(
     // Where all was served the port was told that no more links will be asked for.
     ensures stopped { result ≡ Status.Ok → WasStopped P.Port }
 
-    // Where memory did not run out, hooks that tell plans asked what those have, by the entries that the scribe was given.
-    ensures asked { result ≢ Status.Memory →
-        AskedByPlans (telling (λ h. heard h) (λ h. asked h) (λ h. planned h)) hooks.items (S.trace scribe.old) (S.trace scribe.new) }
+    // Hooks that tell plans asked what those have, by the entries that the scribe was given; but where memory ran out, a last fire may
+    // have been cut off in which its hook asked anything.
+    ensures asked { AskedByPlans (telling (λ h. heard h) (λ h. asked h) (λ h. planned h)) result hooks.items (S.trace scribe.old)
+        (S.trace scribe.new) }
     ensures write_calm { result ≢ WriteFault → K.faults sink.new ≡ K.faults sink.old }
     ensures unwritten { result ≡ Status.Memory → sink.new ≡ sink.old }
 {

@@ -38,9 +38,10 @@ pub fn serve<R: Wait, P: Port, S: Scribe, K: Sink>(
     // Where all was served the port was told that no more links will be asked for.
     ensures stopped { result ≡ status.Ok → WasStopped P.Port }
 
-    // Where memory did not run out, hooks that tell plans asked what those have, by the entries that the scribe was given.
-    ensures asked { result ≢ Memory →
-        AskedByPlans (telling (λ h. heard h) (λ h. asked h) (λ h. planned h)) hooks.items (S.trace scribe.old) (S.trace scribe.new) }
+    // Hooks that tell plans asked what those have, by the entries that the scribe was given; but where memory ran out, a last fire may
+    // have been cut off in which its hook asked anything.
+    ensures asked { AskedByPlans (telling (λ h. heard h) (λ h. asked h) (λ h. planned h)) result hooks.items (S.trace scribe.old)
+        (S.trace scribe.new) }
 
     // The words are looked at before all else.
     ensures untouched { result ≡ Usage → (port.new ≡ port.old) × (scribe.new ≡ scribe.old) × (sink.new ≡ sink.old) }

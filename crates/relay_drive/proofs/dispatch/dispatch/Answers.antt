@@ -19,7 +19,7 @@ use Rattle.relay_drive.proofs.AskedLinks.{dispatching-other, fire-other}
 use Rattle.relay_drive.proofs.DispatchLemmas.{fire-does}
 use Rattle.relay_drive.proofs.FiredLemmas.{fired-none, fired-then, fired-as, fire, fired-step, fired-no_room, fired-still, to-more}
 use Rattle.relay_drive.proofs.FiredLemmas.{to-stop, to-cut}
-use Rattle.relay_drive.proofs.FiredLemmas.{to-short, to-all, due-hooked}
+use Rattle.relay_drive.proofs.FiredLemmas.{fired-short, to-all, due-hooked}
 use Rattle.relay_model.specs.Plain.{is_live}
 use Rattle.relay_drive.proofs.FreedStays.{dispatching-stays, seated-kept}
 use Rattle.relay_drive.proofs.SeatLemmas.{slot-full, seat-seated}
@@ -59,6 +59,7 @@ returns-in_err-make_room-clause-went g c =
           (fired-no_room m _ (g.S.Scribe.trace c.loop-side.scribe) (g.S.Scribe.trace c.make_room.new.scribe) rest
           c.loop-side.seats.hooks.items
           c.loop-side.seats.gone.items (c.make_room.ensures.state ∙ c.in-Some.ensures.1) refl c.make_room.ensures.list)),
+      tt,
     )
 
 pub fire_next-requires-clause-live : goal.fire_next-requires-clause-live
@@ -82,16 +83,13 @@ returns-in_err-fire_next-clause-went g c =
     let rest = c.next_due.new.self.state.batch in
     let e = c.in-Some.side in
     let hooked = due-hooked m.relay.state e c.in-Some.why rest c.loop-side.invariant.stood c.in-Some.ensures.0 in
-    rw (p.1) (
-      Some e,
-      fired-as (λ x q. to-short c.fire_next.new.run.relay.stopped e _ _ x q)
-          (fired-then (Some e) c.loop-side.invariant.fired
-          (fired-step c.fire_next.new.run.relay.stopped (Some e) false _ m _ c.fire_next.new.run (g.S.Scribe.trace c.loop-side.scribe)
-          (g.S.Scribe.trace c.make_room.new.scribe) (g.S.Scribe.trace c.fire_next.new.scribe) e c.in-Some.why rest
-          c.loop-side.seats.hooks.items c.loop-side.seats.gone.items c.fire_next.new.seats.hooks.items c.fire_next.new.seats.gone.items
-          c.in-Some.ensures.0 (c.make_room.ensures.state ∙ c.in-Some.ensures.1) refl c.make_room.ensures.list hooked.0
-          c.loop-side.invariant.seated.level c.in_err-fire_next.ensures.fired c.in_err-fire_next.ensures.seat (λ q. absurd (q refl)) refl)),
-    )
+    rw (p.1)
+    (fired-short c.fire_next.new.run.relay.stopped e c.loop-side.invariant.fired
+    (fired-step c.fire_next.new.run.relay.stopped (Some e) false _ m _ c.fire_next.new.run (g.S.Scribe.trace c.loop-side.scribe)
+    (g.S.Scribe.trace c.make_room.new.scribe) (g.S.Scribe.trace c.fire_next.new.scribe) e c.in-Some.why rest
+    c.loop-side.seats.hooks.items c.loop-side.seats.gone.items c.fire_next.new.seats.hooks.items c.fire_next.new.seats.gone.items
+    c.in-Some.ensures.0 (c.make_room.ensures.state ∙ c.in-Some.ensures.1) refl c.make_room.ensures.list hooked.0
+    c.loop-side.invariant.seated.level c.in_err-fire_next.ensures.fired c.in_err-fire_next.ensures.seat (λ q. absurd (q refl)) refl))
 
 pub returns-then-has_stopped-clause-went : goal.returns-then-has_stopped-clause-went
 returns-then-has_stopped-clause-went g c =

@@ -61,7 +61,7 @@ returns-in_err-dispatch-clause-went g c =
     (goes_then c.in_ok-start.ensures.went
     (goes_fired (g.P.Port.vouches c.start.new.port) g.P.Port.none_waits (g.P.Port.told c.start.new.port)
     (g.P.Port.ends c.start.new.port) (g.P.Port.faults c.start.new.port) g.met.P.Port.waits_no_more (g.met.P.Port.unheard c.start.new.port)
-    q.1 did.own (hooks-same did) (q.0, q.1.hooked)))))
+    q.1 did.own (hooks-same did) (q.0, q.1.hooked, q.2)))))
 
 pub returns-in_err-finish-in-Went-clause-went : goal.returns-in_err-finish-in-Went-clause-went
 returns-in_err-finish-in-Went-clause-went g c =

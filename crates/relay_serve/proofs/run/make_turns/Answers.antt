@@ -7,7 +7,6 @@ use Rattle.relay_drive.specs.DriveValue.{DriveValue, is_worn, kept_of}
 use Rattle.relay_drive.specs.Known.{Point}
 use Rattle.relay_drive.specs.Seats.{telling, seated_sides}
 use Rattle.relay_drive.proofs.GoesLemmas.{Grew-join}
-use Rattle.program_end.specs.EndStatus.{status_of}
 use Rattle.program_end.proofs.TurnCountLemmas.{BeginsOnce, end-begins, cut-begins}
 use Rattle.relay_serve.specs.Seen.{Seen, seen}
 use Rattle.relay_serve.specs.Underway.{TurnsCut, TurnsEnd}
@@ -166,16 +165,16 @@ returns-in-Err-clause-went g c =
 -- What hooks asked by their plans
 
 pub returns-then-is_served_out-clause-asked : goal.returns-then-is_served_out-clause-asked
-returns-then-is_served_out-clause-asked g c = λ lasted.
+returns-then-is_served_out-clause-asked g c =
     let inv = c.loop.invariant in
     asked-told
     (telling (λ h. (goal.Hook-dyn g (h.vtable, h.value)).heard h.value) (λ h. (goal.Hook-dyn g (h.vtable, h.value)).asked h.value)
     (λ h. (goal.Hook-dyn g (h.vtable, h.value)).planned h.value))
-    c.args.seats.now.hooks.items c.loop.seats.hooks.items c.loop.seats.gone.items inv.went.0.0.added
+    _ c.args.seats.now.hooks.items c.loop.seats.hooks.items c.loop.seats.gone.items inv.went.0.0.added
     (g.S.Scribe.trace c.args.scribe.now) (g.S.Scribe.trace c.loop.scribe) inv.went.0.0.list inv.went.1
 
 pub returns-in-Ok-Stopped-clause-asked : goal.returns-in-Ok-Stopped-clause-asked
-returns-in-Ok-Stopped-clause-asked g c = λ lasted.
+returns-in-Ok-Stopped-clause-asked g c =
     let inv = c.loop.invariant in
     let t = inv.went.0.0.added in
     let old : Option Trace = g.S.Scribe.trace c.args.scribe.now in
@@ -188,7 +187,7 @@ returns-in-Ok-Stopped-clause-asked g c = λ lasted.
     asked-told
     (telling (λ h. (goal.Hook-dyn g (h.vtable, h.value)).heard h.value) (λ h. (goal.Hook-dyn g (h.vtable, h.value)).asked h.value)
     (λ h. (goal.Hook-dyn g (h.vtable, h.value)).planned h.value))
-    first c.turn.new.seats.hooks.items c.turn.new.seats.gone.items (t ++ w.added) old new
+    _ first c.turn.new.seats.hooks.items c.turn.new.seats.gone.items (t ++ w.added) old new
     (Grew-join old mid new t w.added inv.went.0.0.list w.list)
     (told-on
     (telling (λ h. (goal.Hook-dyn g (h.vtable, h.value)).heard h.value) (λ h. (goal.Hook-dyn g (h.vtable, h.value)).asked h.value)
@@ -197,7 +196,7 @@ returns-in-Ok-Stopped-clause-asked g c = λ lasted.
     (t ++ w.added) refl inv.went.1 w.hooked)
 
 pub returns-in-Err-clause-asked : goal.returns-in-Err-clause-asked
-returns-in-Err-clause-asked g c = λ lasted.
+returns-in-Err-clause-asked g c =
     let inv = c.loop.invariant in
     let went = inv.went.0.0 in
     let t = went.added in
@@ -210,11 +209,11 @@ returns-in-Err-clause-asked g c = λ lasted.
     asked-told
     (telling (λ h. (goal.Hook-dyn g (h.vtable, h.value)).heard h.value) (λ h. (goal.Hook-dyn g (h.vtable, h.value)).asked h.value)
     (λ h. (goal.Hook-dyn g (h.vtable, h.value)).planned h.value))
-    first c.loop.seats.hooks.items c.loop.seats.gone.items t old new
+    _ first c.loop.seats.hooks.items c.loop.seats.gone.items t old new
     (subst (λ s. Grew old (g.S.Scribe.trace s) t) (sym k.3) went.list) inv.went.1)
     (λ fresh. let w = c.in-Err.ensures.went inv.calm fresh in
     asked-cut
     (telling (λ h. (goal.Hook-dyn g (h.vtable, h.value)).heard h.value) (λ h. (goal.Hook-dyn g (h.vtable, h.value)).asked h.value)
     (λ h. (goal.Hook-dyn g (h.vtable, h.value)).planned h.value))
-    first c.loop.seats.hooks.items c.loop.seats.gone.items c.in-Err.fault t w.added c.loop.drive.state c.turn.new.self.state old new
-    (Grew-join old mid new t w.added went.list w.list) (λ is. lasted (ap status_of is)) w.does inv.went.1)
+    first c.loop.seats.hooks.items c.loop.seats.gone.items c.turn.new.seats.hooks.items c.turn.new.seats.gone.items c.in-Err.fault t w.added
+    c.loop.drive.state c.turn.new.self.state old new (Grew-join old mid new t w.added went.list w.list) w.does w.hooked inv.went.1)

@@ -41,7 +41,13 @@ pub returns-in-Started-clause-asked : goal.returns-in-Started-clause-asked
 returns-in-Started-clause-asked g c = c.make_turns.ensures.asked
 
 pub returns-in-Failed-clause-asked : goal.returns-in-Failed-clause-asked
-returns-in-Failed-clause-asked g c = λ lasted. asked-nothing
+returns-in-Failed-clause-asked g c = asked-nothing
     (telling (λ h. (goal.Hook-dyn g (h.vtable, h.value)).heard h.value) (λ h. (goal.Hook-dyn g (h.vtable, h.value)).asked h.value)
     (λ h. (goal.Hook-dyn g (h.vtable, h.value)).planned h.value))
-    c.args.seats.now.hooks.items (g.S.Scribe.trace c.args.scribe.now)
+    _ c.args.seats.now.hooks.items (g.S.Scribe.trace c.args.scribe.now)
+
+pub returns-in-NoMemory-clause-asked : goal.returns-in-NoMemory-clause-asked
+returns-in-NoMemory-clause-asked g c = asked-nothing
+    (telling (λ h. (goal.Hook-dyn g (h.vtable, h.value)).heard h.value) (λ h. (goal.Hook-dyn g (h.vtable, h.value)).asked h.value)
+    (λ h. (goal.Hook-dyn g (h.vtable, h.value)).planned h.value))
+    _ c.args.seats.now.hooks.items (g.S.Scribe.trace c.args.scribe.now)

@@ -18,7 +18,7 @@ returns-in-Err-clause-did g c =
     (words-ended given hooks c.in-Err.fault old before c.in-Err.ensures.refused)
 
 pub returns-in-Err-clause-asked : goal.returns-in-Err-clause-asked
-returns-in-Err-clause-asked g c = λ lasted. asked-nothing
+returns-in-Err-clause-asked g c = asked-nothing
     (telling (λ h. (goal.Hook-dyn g (h.vtable, h.value)).heard h.value) (λ h. (goal.Hook-dyn g (h.vtable, h.value)).asked h.value)
     (λ h. (goal.Hook-dyn g (h.vtable, h.value)).planned h.value))
-    c.args.hooks.items (g.S.Scribe.trace c.args.scribe.now)
+    _ c.args.hooks.items (g.S.Scribe.trace c.args.scribe.now)
