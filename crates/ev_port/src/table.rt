@@ -273,8 +273,8 @@ impl WantTable {
         &self.list
     }
 
-    /// Lists all wants, without marks. Takes no memory; linear in the wants, and in the sides, of which it passes over 64 at a
-    /// time.
+    /// Lists all wants, without marks. Takes no memory; linear in the wants, and in the sides, of which it passes over 4,096 at
+    /// a time.
     ///
     /// Own.
     pub fn name_all(&mut self)
@@ -296,7 +296,7 @@ impl WantTable {
     }
 
     /// Whether something that is wanted can be done, by the numbers of the sides that can be read and of those that can be
-    /// written. Takes no memory; linear in the sides before the first, of which it passes over 64 at a time.
+    /// written. Takes no memory; linear in the sides before the first, of which it passes over 4,096 at a time.
     ///
     /// Own.
     pub fn is_any_ready(&self, readable: &NumberSet, writable: &NumberSet) -> bool
@@ -306,7 +306,7 @@ impl WantTable {
     }
 
     /// Lists the wants for what can be done, with their marks, by the numbers of the sides that can be read and of those that
-    /// can be written. Takes no memory; linear in the marked wants, and in the sides, of which it passes over 64 at a time.
+    /// can be written. Takes no memory; linear in the marked wants, and in the sides, of which it passes over 4,096 at a time.
     ///
     /// Own.
     pub fn mark_ready(&mut self, readable: &NumberSet, writable: &NumberSet)
@@ -323,7 +323,7 @@ impl WantTable {
     }
 
     /// Has each want marked, in the order of their sides, and lists those with a mark. Takes no memory; linear in the wants,
-    /// and in the sides, of which it passes over 64 at a time.
+    /// and in the sides, of which it passes over 4,096 at a time.
     ///
     /// Own.
     pub fn mark_each<M: MarkWant>(&mut self, marker: &mut M)
@@ -346,7 +346,7 @@ impl WantTable {
     }
 
     /// The want of the first side that wants something, from a number on, or None where no such side does. Takes no memory;
-    /// linear in the sides that it passes over, 64 at a time.
+    /// linear in the sides that it passes over, 4,096 at a time.
     ///
     /// Own.
     pub fn next_wanted(&self, from: usize) -> Option<Want>
@@ -361,7 +361,7 @@ impl WantTable {
     }
 
     /// The want of the last side that wants something, before a number, or None where no such side does. Takes no memory;
-    /// linear in the sides that it passes over, 64 at a time.
+    /// linear in the sides that it passes over, 4,096 at a time.
     ///
     /// Own.
     pub fn previous_wanted(&self, before: usize) -> Option<Want>

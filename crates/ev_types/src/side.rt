@@ -55,7 +55,7 @@ impl SideId {
     }
 }
 
-/// The number of a bufferevent. It is never used again.
+/// The number of a bufferevent. Only `World::renew_at` of bev_world uses one again, once its bufferevent is freed.
 ///
 /// Own; libevent names a bufferevent by its pointer.
 #[derive(Clone, Copy, Debug, PartialEq, Eq)]
