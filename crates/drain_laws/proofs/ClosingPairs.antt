@@ -18,13 +18,13 @@ use Rattle.relay_model.specs.RatesKept.{is_turn}
 use Rattle.relay_model.specs.Scripted.{reading, begun}
 use Rattle.relay_model.specs.Plays.{IsAnswered}
 use Rattle.relay_model.specs.OpenLinks.{open_link_count, FreesAreDone}
-use Rattle.relay_model.specs.MovingOn.{moves_on, with_turn, IsWholeTurn, IsDraining}
+use Rattle.relay_model.specs.MovingOn.{moves_on, with_turn, IsWholeTurn, IsDraining, IsUnhindered}
 use Rattle.relay_model.specs.Work.{PairsMoveOn}
 use Rattle.relay_model.specs.ClosingTurns.{BetweenTurns}
 use Rattle.relay_model.proofs.ClosingGoes.{two_closing_turns_go_on}
 use Rattle.relay_model.proofs.ToldLemmas.{kept}
 use Rattle.relay_laws.specs.Relayed.{IsRelayed, StoodAt, StoodBetween}
-use Rattle.drain_laws.specs.CanDrain.{CanDrain, last_moment}
+use Rattle.drain_laws.specs.CanDrain.{CanDrain, LeavesRoom, last_moment}
 use Rattle.drain_laws.proofs.AnsweredTurns.{answered-turn, reading-closing, clock-within, greatest_time-append, last_time-within}
 use Rattle.drain_laws.proofs.AnsweredTurns.{begun-append}
 use Rattle.drain_laws.proofs.TurnPlaces.{turn-bare, between-one, leads-on, IsTurn, AtEnd, parts-begin}
@@ -63,7 +63,7 @@ module _ (g : Settings) (turns : List ScriptTurn) (t : Trace) (links : List Link
       (answered-turn turns (closing_step g) t answered before after k.ms k.bytes (is ∙ ap (λ v. before ++ v ∷ after) k.is)).answered
   answered-there before (y ∷ after) is (inr none) = absurd (cc)
 
-  module _ (can : CanDrain g turns) (frees : FreesAreDone t)
+  module _ (can : CanDrain g turns) (room : LeavesRoom g) (frees : FreesAreDone t)
       (clock : last_moment turns + closing_step g * (begun turns t - length turns) ≤ latest) where
     -- a closing turn comes a step later than all before it
     comes-later : (before after : Trace) (ms : ℕ) → t ≡ before ++ (entry.Turn ms, []) ∷ after → length turns ≤ begun turns before →
@@ -96,12 +96,21 @@ module _ (g : Settings) (turns : List ScriptTurn) (t : Trace) (links : List Link
         BetweenTurns g (with_turn front one first) (λ s. 1 ≤ open_link_count s) →
         (list_any moves_on first || list_any moves_on second) ≡ true
     two-go front one first two second rest is quiet still end le some_open =
-        two_closing_turns_go_on g turns (closing_step g) front s0.plain one first s1.plain two second s2.plain can.unhindered can.drainable
+        two_closing_turns_go_on g turns (closing_step g) front s0.plain one first s1.plain two second s2.plain unhindered can.drainable
         (answered-there u2 rest is2 end) begun_u1 whole1 whole2 draining
         (group-ticks g s0.plain.time one (omega (arith, early, later)))
         (group-ticks g one two (omega (arith, within, latter)))
         (side-ticks g s1.plain.time two (omega (arith, mid, latter)))
       where
+        unhindered : IsUnhindered g
+        unhindered = record {
+          hooks = can.hooks;
+          in_timeouts = can.in_timeouts;
+          out_timeouts = can.out_timeouts;
+          holds = room.holds;
+          shares = room.shares;
+        }
+
         u1 : Trace
         u1 = with_turn front one first
 

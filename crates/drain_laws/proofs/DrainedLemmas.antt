@@ -28,7 +28,7 @@ use Rattle.relay_model.specs.ClosingTurns.{most_closing_turns, makes_one_more, B
 use Rattle.relay_model.proofs.DrainLemmas.{drains_in_most}
 use Rattle.relay_laws.specs.Relayed.{IsRelayed}
 use Rattle.relay_laws.specs.TurnEnds.{begins_turn}
-use Rattle.drain_laws.specs.CanDrain.{CanDrain, IsCountable, last_moment, closing_turn_bound}
+use Rattle.drain_laws.specs.CanDrain.{CanDrain, LeavesRoom, IsCountable, last_moment, closing_turn_bound}
 use Rattle.drain_laws.specs.DrainBound.{FreesAreOfDone, MostIsBounded, ClosingTurnsAreFew, AllLinksDone, DrainedLinksAreDone}
 use Rattle.drain_laws.proofs.AnsweredTurns.{begun-append}
 use Rattle.drain_laws.proofs.TurnPlaces.{leads-on, between-one, Cut, cut, AtEnd}
@@ -65,7 +65,7 @@ none-more-open turns most t s h fewer = elim (cases_lt 0 (open_link_count s)) [
 ]
 
 module _ (frees_done : FreesAreOfDone) (bounded : MostIsBounded) (few : ClosingTurnsAreFew) (g : Settings) (turns : List ScriptTurn)
-    (t : Trace) (links : List LinkCount) (can : CanDrain g turns) (countable : IsCountable g turns)
+    (t : Trace) (links : List LinkCount) (can : CanDrain g turns) (room : LeavesRoom g) (countable : IsCountable g turns)
     (relayed : IsRelayed g TurnAnswer.Went t links) (answered : IsAnswered turns (closing_step g) t) (took : TookAll turns g.links t)
     (run : Drains turns g TurnAnswer.Went t) where
   abbrev step : ℕ
@@ -115,7 +115,7 @@ module _ (frees_done : FreesAreOfDone) (bounded : MostIsBounded) (few : ClosingT
 
     pairs : PairsMoveOn parts.parts
     pairs =
-        pairs-go g turns t links relayed answered can frees clock run.scripted run.closing run.is
+        pairs-go g turns t links relayed answered can room frees clock run.scripted run.closing run.is
         (let a = run.all in omega (arith, a)) each parts.parts parts.each [] closing_is
 
     whole : t ≡ run.scripted ++ flat_map (λ part. part) parts.parts
@@ -156,5 +156,5 @@ module _ (frees_done : FreesAreOfDone) (bounded : MostIsBounded) (few : ClosingT
           subst (AllAccounted g t) (between-one g t k.plain ended k.reached end) k.accounted
 
 pub drained_links_are_done : FreesAreOfDone → MostIsBounded → ClosingTurnsAreFew → DrainedLinksAreDone
-drained_links_are_done frees_done bounded few g turns t links can countable relayed answered always took run starts =
-    links-done frees_done bounded few g turns t links can countable relayed answered took run starts
+drained_links_are_done frees_done bounded few g turns t links can room countable relayed answered always took run starts =
+    links-done frees_done bounded few g turns t links can room countable relayed answered took run starts

@@ -176,6 +176,6 @@ closing_turns_are_few frees_are_of_done g turns closing_by t s parts after can n
     let u : Trace = flat_map (λ part. part) parts in
     let there : Reaches g (t ++ u) (at Stage.Between after) =
     reaches-on g t (at Stage.Between s) reached (t ++ u) (at Stage.Between after) way in
-    few-where-done g turns closing_by t s parts after can.unhindered.hooks
+    few-where-done g turns closing_by t s parts after can.hooks
     (frees_are_of_done g turns closing_by (t ++ u) can ordered (at Stage.Between after, there) answered) names reached way
     answered all pairs

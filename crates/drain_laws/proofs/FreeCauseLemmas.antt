@@ -24,7 +24,6 @@ use Rattle.relay_model.specs.Close.{CloseStep}
 use Rattle.relay_model.specs.Stages.{Stage, State, Fire, at, Between, Freeing, Closing}
 use Rattle.relay_model.specs.Due.{Reason}
 use Rattle.relay_model.specs.Turn.{Reaches, IsLegal}
-use Rattle.relay_model.specs.MovingOn.{IsUnhindered}
 use Rattle.relay_model.specs.Plays.{IsAnswered}
 use Rattle.relay_model.specs.Told.{freed_by, is_freed, is_freeing, failed_by}
 use Rattle.relay_model.specs.Causes.{HasCause, InThisTurn}
@@ -83,20 +82,20 @@ of-sides P e i o = go (in-or-out e)
 abbrev Untimed : ℕ → SideId → Looks → Type 0
 Untimed n e x = x.timeouts ≡ no_timeouts
 
-none-set : (g : Settings) → IsUnhindered g → (x : Side) → timeouts_set g x ≡ no_timeouts
-none-set g h In = h.in_timeouts
-none-set g h Out = h.out_timeouts
+none-set : (g : Settings) (turns : List ScriptTurn) → CanDrain g turns → (x : Side) → timeouts_set g x ≡ no_timeouts
+none-set g turns can In = can.in_timeouts
+none-set g turns can Out = can.out_timeouts
 
-untimed : (g : Settings) → IsUnhindered g → (t : Trace) (s : State) → Reaches g t s → (e : SideId) →
+untimed : (g : Settings) (turns : List ScriptTurn) → CanDrain g turns → (t : Trace) (s : State) → Reaches g t s → (e : SideId) →
     (side_at s.plain e).timeouts ≡ no_timeouts
-untimed g free t s r = all-hold g Untimed (record {
+untimed g turns can t s r = all-hold g Untimed (record {
   later = λ n m e x le h. h;
   unopened = λ n e. refl;
-  fresh = λ n turn e connected. none-set g free e.side;
+  fresh = λ n turn e connected. none-set g turns can e.side;
   was_read = λ n e x h. h;
   written = λ n e x h. h;
   connected = λ n e x h. h;
-  asked = λ n e x r w hooked a b h. absurd (hooked free.hooks);
+  asked = λ n e x r w hooked a b h. absurd (hooked can.hooks);
 }) t s r
 
 untimely : (x : PlainSide) (d : Dir) → x.timeouts ≡ no_timeouts → 1 ≤ timeout_of x d → ⊥
@@ -200,10 +199,10 @@ module _ (g : Settings) (turns : List ScriptTurn) (step : ℕ) (t : Trace) (can 
       go earlier cause.Hook is h =
           let k = frees_are_called_for g t before after e cause.Hook moved given bytes legal is in
           let c = k.called in
-          absurd (not-freeing g k.stage k.plain (asleep g before (at k.stage k.plain) can.unhindered.hooks k.reached) e c.0 c.1 c.2)
+          absurd (not-freeing g k.stage k.plain (asleep g before (at k.stage k.plain) can.hooks k.reached) e c.0 c.1 c.2)
       go earlier cause.Timeout is h =
           let o = h.3 in
-          absurd (untimely (side_at o.before e) o.dir (untimed g can.unhindered o.early (at Between o.before) o.reached e)
+          absurd (untimely (side_at o.before e) o.dir (untimed g turns can o.early (at Between o.before) o.reached e)
           o.overdue.has_timeout)
       go earlier (cause.Filter place) is h =
           absurd (not-met g turns step can ordered t answered before ((entry.Freed e (cause.Filter place) moved given, bytes) ∷ after) is

@@ -1,18 +1,18 @@
 -- What is asked of settings and of a script, so that closing turns bring every link to its end.
 use Rattle.std.specs.Prelude.{◌≡◌, ℕ, ◌+◌, ◌*◌, ◌^◌, ◌≤◌, true, false, List, [], ◌++◌, length, map, sum_by, All}
-use Rattle.std.specs.Prelude.{None, unwrap_or}
+use Rattle.std.specs.Prelude.{None, Some, unwrap_or, slice_get}
 use Rattle.std.specs.List.{flat_map, list_any, last_or}
 use Rattle.ev_types.specs.declared.side.SideId.{SideId}
 use Rattle.ev_types.specs.declared.turn_line.TurnLine.{TurnLine}
 use Rattle.ev_types.specs.ScriptTurn.{ScriptTurn, lines_of}
 use Rattle.ev_types.specs.Sides.{peer}
 use Rattle.filter_model.specs.Filter.{filter_of}
-use Rattle.relay_model.specs.Settings.{Settings}
+use Rattle.ev_types.specs.Usual.{no_timeouts}
+use Rattle.relay_model.specs.Settings.{Settings, GroupSet, HasNoHooks, HoldsSome}
 use Rattle.relay_model.specs.Rooms.{read_kind, write_kind}
 use Rattle.relay_model.specs.Lines.{brings, ends, fails_writes, fails_poll}
 use Rattle.relay_model.specs.Called.{NamesOpened}
 use Rattle.relay_model.specs.Script.{closing_step}
-use Rattle.relay_model.specs.MovingOn.{IsUnhindered}
 use Rattle.relay_model.specs.ClosingTurns.{scripted_links, brought_count, IsDrainable}
 
 -- all that a script brings in at an end, and how many bytes it brings in at all ends
@@ -32,10 +32,12 @@ pub record HasGoodBytes (g : Settings) (turns : List ScriptTurn) (e : SideId) : 
   pub read : (filter_of (read_kind g e.side)).bad_at_end (brought_at turns e) ≡ None
   pub write : (filter_of (write_kind g (peer e).side)).bad_at_end ((filter_of (read_kind g e.side)).at_end (brought_at turns e)) ≡ None
 
--- The settings hinder nothing. Each end of a link ends; no read, no write, no poll and no connection fails; no filter is bad on its bytes;
--- and no turn comes later than the last one.
+-- No side has a hook or a timeout. Each end of a link ends; no read, no write, no poll and no connection fails; no filter is bad on its
+-- bytes; and no turn comes later than the last one.
 pub record CanDrain (g : Settings) (turns : List ScriptTurn) : Type 0 where
-  pub unhindered : IsUnhindered g
+  pub hooks : HasNoHooks g
+  pub in_timeouts : g.in_timeouts ≡ no_timeouts
+  pub out_timeouts : g.out_timeouts ≡ no_timeouts
   pub drainable : IsDrainable turns
   pub no_write_fails : (e : SideId) → list_any (fails_writes e) (lines_of turns) ≡ false
   pub no_poll_fails : list_any fails_poll (lines_of turns) ≡ false
@@ -51,6 +53,11 @@ closing_turn_bound turns = 4 + 32 * total_brought turns + 72 * length (scripted_
 abbrev pub NoneBehind : List TurnLine → Type 0
 NoneBehind lines = (before after : List TurnLine) (e : SideId) → lines ≡ before ++ after → list_any (ends e) before ≡ true →
     flat_map (brings e) after ≡ []
+
+-- The settings of every script leave room for bytes: the hold mark isn't 0, and each group leaves its members one.
+pub record LeavesRoom (g : Settings) : Type 0 where
+  pub holds : HoldsSome g
+  pub shares : (n : ℕ) (x : GroupSet) → slice_get g.groups n ≡ Some x → 1 ≤ x.share
 
 -- What every script is: its lines name links that it opened before, and bring in nothing behind an end; as many links may be opened as it
 -- has; and the clock can count so many closing turns.

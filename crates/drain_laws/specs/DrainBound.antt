@@ -26,7 +26,7 @@ use Rattle.relay_steps.specs.Meaning.{StandsFor}
 use Rattle.relay_laws.specs.Links.{link_state_in}
 use Rattle.relay_laws.specs.Relayed.{IsRelayed}
 use Rattle.relay_laws.specs.TurnEnds.{begins_turn}
-use Rattle.drain_laws.specs.CanDrain.{CanDrain, IsCountable, NoneBehind, closing_turn_bound}
+use Rattle.drain_laws.specs.CanDrain.{CanDrain, LeavesRoom, IsCountable, NoneBehind, closing_turn_bound}
 
 -- In a run over a script that can be drained each free is of a side that is done.
 abbrev pub FreesAreOfDone : Type 0
@@ -74,5 +74,5 @@ IsOfTurns part = (begins_turn part ≡ true) ⊎ (part ≡ [])
 -- closing turn begins where the script's last turn ended.
 abbrev pub DrainedLinksAreDone : Type 0
 DrainedLinksAreDone = (g : Settings) (turns : List ScriptTurn) (t : Trace) (links : List LinkCount) → CanDrain g turns →
-    IsCountable g turns → IsRelayed g TurnAnswer.Went t links → IsAnswered turns (closing_step g) t → AlwaysTookAll turns g.links [] t →
-    TookAll turns g.links t → (run : Drains turns g TurnAnswer.Went t) → IsOfTurns run.closing → AllLinksDone turns t
+    LeavesRoom g → IsCountable g turns → IsRelayed g TurnAnswer.Went t links → IsAnswered turns (closing_step g) t →
+    AlwaysTookAll turns g.links [] t → TookAll turns g.links t → (run : Drains turns g TurnAnswer.Went t) → IsOfTurns run.closing → AllLinksDone turns t

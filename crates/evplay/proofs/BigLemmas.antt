@@ -9,6 +9,7 @@ use Rattle.ev_types.specs.declared.status.LinkCount.{LinkCount}
 use Rattle.ev_types.specs.declared.turn_line.TurnLine.{TurnLine}
 use Rattle.ev_types.specs.declared.turn_line.TurnLine.TheVariants as line
 use Rattle.command_words.specs.declared.mode.Ending.TheVariants as ending
+use Rattle.relay_model.specs.Settings.{HoldsSome}
 use Rattle.relay_model.specs.Lines.{fails_poll}
 use Rattle.relay_model.specs.Scripted.{begun, poll_fails}
 use Rattle.relay_laws.specs.Spelling.{BringsFit, TimeoutsFit}
@@ -46,6 +47,9 @@ big-brings n few e =
 
 pub big-timeouts : (n : ℕ) → TimeoutsFit (settings_of (big_script_of n))
 big-timeouts n = record { in_read = omega arith; in_write = omega arith; out_read = omega arith; out_write = omega arith }
+
+pub big-holds : (n : ℕ) → HoldsSome (settings_of (big_script_of n))
+big-holds n = record { hold = omega arith }
 
 -- no hook is seated
 pub none-seated : {H : Type 0} (tells : Telling H) (n : ℕ) (hooks : List (Option H)) → hooks ≡ [] →

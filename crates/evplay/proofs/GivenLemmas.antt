@@ -12,7 +12,7 @@ use Rattle.script_text.specs.GroupsAreSet.{GroupsAreSet}
 use Rattle.script_text.specs.Script.{ScriptValue}
 use Rattle.script_text.specs.ScriptView.{script_value}
 use Rattle.relay_model.specs.Settings as model
-use Rattle.relay_model.specs.Settings.{settings_with}
+use Rattle.relay_model.specs.Settings.{settings_with, HoldsSome}
 use Rattle.relay_laws.specs.Spelling.{TimeoutsFit}
 use Rattle.relay_core.specs.GivenGroups.{group_given, settings_given, AreGroups}
 use Rattle.relay_core.specs.declared.rate_groups.RateGroups.{RateGroups}
@@ -75,3 +75,8 @@ pub timed-as : (g : Settings) (x : RateGroups) (hooks : List SideId) (script : S
 timed-as g x hooks script set fit =
     subst (λ z. TimeoutsFit (settings_given z x hooks)) (sym set)
     (record { in_read = fit.in_read; in_write = fit.in_write; out_read = fit.out_read; out_write = fit.out_write })
+
+-- and the hold mark is the script's
+pub held-as : (g : Settings) (x : RateGroups) (hooks : List SideId) (script : ScriptValue) → g ≡ script.settings →
+    HoldsSome (settings_of script) → HoldsSome (settings_given g x hooks)
+held-as g x hooks script set some = subst (λ z. HoldsSome (settings_given z x hooks)) (sym set) (record { hold = some.hold })

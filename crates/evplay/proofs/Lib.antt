@@ -12,7 +12,7 @@ pub mod ScriptLemmas
 pub mod BehindLemmas
 pub mod BroughtLemmas
 pub mod SizeLemmas
-pub mod TimeoutLemmas
+pub mod SettingLemmas
 pub mod PlanLemmas
 pub mod HandedLemmas
 pub mod GivenLemmas

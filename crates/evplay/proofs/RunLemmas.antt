@@ -13,7 +13,7 @@ use Rattle.relay_model.specs.Plays.{AlwaysTookAll, EndsPlayed, TookAll}
 use Rattle.relay_model.specs.RatesKept.{is_turn}
 use Rattle.relay_model.specs.Script.{closing_step, plan_of}
 use Rattle.relay_model.specs.Scripted.{begun}
-use Rattle.relay_model.specs.Settings.{Settings}
+use Rattle.relay_model.specs.Settings.{Settings, HoldsSome}
 use Rattle.relay_model.specs.Stages.{Stage}
 use Rattle.relay_laws.specs.Relayed.{StoodBetween}
 use Rattle.relay_laws.specs.Report.{lines_below}
@@ -99,7 +99,8 @@ module _ (script : ScriptValue) (how : Ending) (handed : HandedIn) (n : ℕ) (g 
       let took = always_called plan s.settings.links [] t called e.seen.0.1 in
       let step : closing_step g ≡ closing_step (settings_on over handed) = ap closing_step on in
       run-of over how handed (answer_of end) t e.left.stage s closing set (links ∙ ready.links)
-      (subst TimeoutsFit (sym e.settings) ready.timeouts) ready.brings ready.small ready.names ready.ordered e.left.stands e.left.left
+      (subst TimeoutsFit (sym e.settings) ready.timeouts) (subst HoldsSome (sym e.settings) ready.holds) ready.brings ready.small
+      ready.names ready.ordered e.left.stands e.left.left
       (played-of (script_run over) p closing (answer_of end) t
       (subst (λ m. ScriptVouches p (closing_plan first.turns m closing) t) step e.seen.0.0)
       (subst (λ m. IsCalledBy (closing_plan first.turns m closing) t) step called)

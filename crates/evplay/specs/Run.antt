@@ -4,7 +4,7 @@ use Rattle.std.specs.List.{All}
 use Rattle.ev_types.specs.ScriptTurn.{ScriptTurn, lines_of}
 use Rattle.ev_types.specs.Trace.{Trace}
 use Rattle.relay_model.specs.RatesKept.{is_turn}
-use Rattle.relay_model.specs.Settings.{Settings}
+use Rattle.relay_model.specs.Settings.{Settings, HoldsSome}
 use Rattle.relay_state.specs.State.{new_state}
 use Rattle.relay_steps.specs.Meaning.{HasItsGroups}
 use Rattle.relay_drive.specs.DriveValue.{DriveValue}
@@ -64,8 +64,8 @@ pub record AreSmall (turns : List ScriptTurn) : Type 0 where
   pub moments : All (λ turn. turn.0 ≤ 2 ^ 40) turns
 
 -- A run of so many turns with these settings may begin over a port: it plays a script of so many, none of which it has begun; the script
--- names only links that it opens and brings in nothing behind an end; what it brings in, its moments and the timeouts can be counted. There
--- are few hooks, and the groups are in order.
+-- names only links that it opens and brings in nothing behind an end; what it brings in, its moments and the timeouts can be counted. The
+-- hold mark isn't 0, there are few hooks, and the groups are in order.
 pub record MayRun (turns : ℕ) (g : Settings) (p : PortState) : Type 0 where
   pub many : turns ≡ length p.turns
   pub small : AreSmall p.turns
@@ -76,5 +76,6 @@ pub record MayRun (turns : ℕ) (g : Settings) (p : PortState) : Type 0 where
   pub hooks : length g.hooks ≤ 64
   pub groups : HasItsGroups g
   pub timeouts : TimeoutsFit g
+  pub holds : HoldsSome g
   pub fresh : p ≡ new_port p.turns
   pub vouched : (step : ℕ) → ScriptVouches p (first_plan p.turns step) []

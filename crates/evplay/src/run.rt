@@ -5,6 +5,7 @@ ghost use Rattle.ev_types.specs.ScriptTurn.{lines_of};
 ghost use Rattle.ev_types.specs.Sides.{number};
 ghost use Rattle.relay_model.specs.Called.{NamesOpened};
 ghost use Rattle.relay_model.specs.Script.{closing_step};
+ghost use Rattle.relay_model.specs.Settings.{HoldsSome};
 ghost use Rattle.relay_core.specs.GivenGroups.{AreGroups, settings_given};
 ghost use Rattle.relay_drive.specs.declared.fault.DriveFault.TheVariants.{Memory};
 ghost use Rattle.relay_drive.specs.Seats.{telling, seated_sides, AreFresh, AreSeated};
@@ -73,6 +74,7 @@ pub fn run(
     requires brings { BringsFit script.turns }
     requires links { script.settings.links ≡ 256 }
     requires timeouts { TimeoutsFit (settings_of script) }
+    requires holds { HoldsSome (settings_of script) }
     requires planned { All (λ x. number x.0 < 64) script.plans }
     requires groups { GroupsAreSet script.groups script.members }
     requires fresh { All (IsFresh (telling (λ h. heard h) (λ h. asked h) (λ h. planned h))) hooks.items }

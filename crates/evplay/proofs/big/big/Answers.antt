@@ -10,8 +10,8 @@ use Rattle.big_script.specs.BigScript.{big_script_of}
 use Rattle.big_script.proofs.BigLemmas.{big_scripts_are_big, big_groups_are_set}
 use Rattle.evplay.specs.Run.{MayRun}
 use Rattle.evplay.proofs.BigBehind.{big-behind}
-use Rattle.evplay.proofs.BigLemmas.{big-brings, big-small, big-timeouts}
-use Rattle.evplay.proofs.GivenLemmas.{Took, took-fit, timed-as, settings-seen, turns-seen, without_groups}
+use Rattle.evplay.proofs.BigLemmas.{big-brings, big-holds, big-small, big-timeouts}
+use Rattle.evplay.proofs.GivenLemmas.{Took, took-fit, timed-as, held-as, settings-seen, turns-seen, without_groups}
 use Rattle.evplay.proofs.big.big.Goals as goal
 
 pub big_over-requires-clause-may_run : goal.big_over-requires-clause-may_run
@@ -41,6 +41,7 @@ big_over-requires-clause-may_run c =
       hooks = omega arith;
       groups = groups-given now.settings given [] (took-fit script given took (big_groups_are_set n));
       timeouts = timed-as now.settings given [] script set (big-timeouts n);
+      holds = held-as now.settings given [] script set (big-holds n);
       fresh = refl;
       vouched = λ step. subst (λ p. ScriptVouches p (first_plan script.turns step) []) first
           (subst (λ (z : ScriptValue). ScriptVouches c.in_ok-port.port (first_plan z.turns step) []) rest

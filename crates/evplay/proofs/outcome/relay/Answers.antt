@@ -3,7 +3,7 @@ use Rattle.evplay.proofs.BroughtLemmas.{brings-fit}
 use Rattle.evplay.proofs.PlanLemmas.{plans-low}
 use Rattle.evplay.proofs.ScriptLemmas.{links-usual}
 use Rattle.evplay.proofs.SizeLemmas.{are-small, none-behind}
-use Rattle.evplay.proofs.TimeoutLemmas.{timeouts-fit}
+use Rattle.evplay.proofs.SettingLemmas.{timeouts-fit, holds-some}
 use Rattle.evplay.proofs.outcome.relay.Goals as goal
 
 pub run-requires-clause-small : goal.run-requires-clause-small
@@ -20,6 +20,9 @@ run-requires-clause-links g c = links-usual c.args.text.now c.in-Ok.script c.in-
 
 pub run-requires-clause-timeouts : goal.run-requires-clause-timeouts
 run-requires-clause-timeouts g c = timeouts-fit c.args.text.now c.in-Ok.script c.in-Ok.ensures.script
+
+pub run-requires-clause-holds : goal.run-requires-clause-holds
+run-requires-clause-holds g c = holds-some c.args.text.now c.in-Ok.script c.in-Ok.ensures.script
 
 pub run-requires-clause-planned : goal.run-requires-clause-planned
 run-requires-clause-planned g c = plans-low c.args.text.now c.in-Ok.script c.in-Ok.ensures.script

@@ -13,7 +13,7 @@ use Rattle.relay_drive.proofs.NewStands.{groups-given}
 use Rattle.evplay.specs.HandedIn.{handed_in, HasSeats}
 use Rattle.evplay.specs.Play.{IsRunText}
 use Rattle.evplay.specs.Run.{script_over, MayRun}
-use Rattle.evplay.proofs.GivenLemmas.{Took, took-fit, took-set, timed-as, plans-seen, settings-seen, turns-seen}
+use Rattle.evplay.proofs.GivenLemmas.{Took, took-fit, took-set, timed-as, held-as, plans-seen, settings-seen, turns-seen}
 use Rattle.evplay.proofs.HandedLemmas.{few-planned}
 use Rattle.evplay.proofs.run.run.Goals as goal
 
@@ -41,6 +41,7 @@ run_over-requires-clause-may_run g c =
       hooks = omega (arith, few, sides);
       groups = groups-given now.settings given hooks (took-fit script given took c.requires.groups);
       timeouts = timed-as now.settings given hooks script set c.requires.timeouts;
+      holds = held-as now.settings given hooks script set c.requires.holds;
       fresh = refl;
       vouched = λ step. subst (λ p. ScriptVouches p (first_plan script.turns step) []) first
           (subst (λ (z : ScriptValue). ScriptVouches c.in_ok-port.port (first_plan z.turns step) []) e.rest
