@@ -1,6 +1,6 @@
 -- Where something that a table wants can be done, a poll marks something: a write, a read of an end that isn't bulky, or what the turn
 -- leaves.
-use Rattle.std.proofs.Common.{◌≡◌, ◌∙◌, ℕ, zero, suc, ◌*◌, ◌<◌, ◌==◌, length, Bool, true, false, cond, ◌&&◌, ◌||◌, not, List}
+use Rattle.std.proofs.Common.{◌≡◌, ◌∙◌, ℕ, zero, suc, ◌*◌, ◌<◌, ◌==◌, nat_lt, length, Bool, true, false, cond, ◌&&◌, ◌||◌, not, List}
 use Rattle.std.proofs.Common.{[], ◌∷◌, Option, None, map, refl, sym, ap, subst, arith, inl, inr, get_or, eq-eqb}
 use Rattle.std.specs.Prelude.{filter}
 use Rattle.std.specs.List.{list_any}
@@ -14,7 +14,7 @@ use Rattle.ev_port.proofs.NamedLemmas.{number-side_of}
 use Rattle.mio_port.specs.declared.end.End.{End}
 use Rattle.mio_port.specs.declared.turn.Turn.{Turn}
 use Rattle.mio_port.specs.EndPlaces.{is_bulky, is_prompt, is_read_ready, is_write_ready, wants_ready, came_short}
-use Rattle.mio_port.specs.ReadTurns.{ListedInTurn, MarkedTable, SomeMarked, marked_in_turn, is_read_now, other_end, drains_now, takes_turns}
+use Rattle.mio_port.specs.ReadTurns.{ListedInTurn, MarkedTable, SomeMarked, marked_in_turn, gives_way, is_read_now, other_end, drains_now, takes_turns}
 use Rattle.mio_port.proofs.TableMarkLemmas.{ready-parts}
 use Rattle.mio_port.proofs.TurnLemmas.{turn-takes}
 
@@ -135,11 +135,11 @@ module _ (t : WantsValue) (ends : List (Option End)) where
       let who = new.who in
       let bulky = is_bulky (get_or ends who None) in
       let parts = and_parts (t.reads who) bulky takes in
-      elim (cases_Bool (new.peer_drains && writable (other_end who))) [
-        | inl drains ↦ (let p = and_parts new.peer_drains (writable (other_end who)) drains in
-            write-listed new (other_end who) (drains-waits old who (sym is ∙ p.0)) p.1)
+      elim (cases_Bool (gives_way new && writable (other_end who))) [
+        | inl drains ↦ (let p = and_parts (gives_way new) (writable (other_end who)) drains in
+            write-listed new (other_end who) (drains-waits old who (sym is ∙ (and_parts new.peer_drains (nat_lt 0 new.left) p.0).0)) p.1)
         | inr dry ↦ read-listed new who parts.0
-            (or_right (is_prompt (get_or ends who None)) ((who == who) && (bulky && not (new.peer_drains && writable (other_end who))))
+            (or_right (is_prompt (get_or ends who None)) ((who == who) && (bulky && not (gives_way new && writable (other_end who))))
             (λ i. eq-eqb who who refl i && (parts.1 i && not (dry i))))
       ]
 

@@ -19,7 +19,7 @@ use Rattle.number_set.specs.Numbers.{NumberSetValue}
 use Rattle.mio_port.specs.declared.end.End.{End}
 use Rattle.mio_port.specs.declared.turn.Turn.{Turn}
 use Rattle.mio_port.specs.EndPlaces.{is_bulky, is_prompt, is_read_ready, is_write_ready, can_write, wants_ready, unmarked}
-use Rattle.mio_port.specs.ReadTurns.{MarkedTable, in_turn, marked_in_turn, marked_with, is_read_now, other_end, takes_turns}
+use Rattle.mio_port.specs.ReadTurns.{MarkedTable, gives_way, in_turn, marked_in_turn, marked_with, is_read_now, other_end, takes_turns}
 
 -- The sets and the ends
 
@@ -101,14 +101,14 @@ module _ (ends : List (Option End)) (prompt bulky writable : NumberSetValue) (tu
 
   -- it may be read by the sets
   abbrev may : ℕ → Bool
-  may n = bulky.has n && not (turn.peer_drains && writable.has (other_end n))
+  may n = bulky.has n && not (gives_way turn && writable.has (other_end n))
 
   -- the same by the ends
   abbrev may_end : ℕ → Bool
-  may_end n = is_bulky (get_or ends n None) && not (turn.peer_drains && is_write_ready (get_or ends (other_end n) None))
+  may_end n = is_bulky (get_or ends n None) && not (gives_way turn && is_write_ready (get_or ends (other_end n) None))
 
   at_who : (n : ℕ) → (n == who) ≡ true → may who ≡ may_end n
-  at_who n is = ap may (sym (eqb-true n who is)) ∙ (λ i. bulks n i && not (turn.peer_drains && writes (other_end n) i))
+  at_who n is = ap may (sym (eqb-true n who is)) ∙ (λ i. bulks n i && not (gives_way turn && writes (other_end n) i))
 
   write_mark : (w : Want) → (w.write && writable.has (number w.side)) ≡ can_write ends w
   write_mark w = λ i. w.write && writes (number w.side) i

@@ -52,13 +52,17 @@ drains_now t ends old who =
     is_bulky (slice_index_or ends who None)
     && (t.writes (other_end who) && (came_short (slice_index_or ends (other_end who) None) || (old.peer_drains && (old.who == who))))
 
--- A ready end may be read if it isn't bulky, or if the turn is its own and its peer doesn't drain or can't be written.
+-- the end whose turn it is gives way to its peer while that drains, but not at the last poll of the turn
+abbrev pub gives_way : Turn → Bool
+gives_way turn = turn.peer_drains && nat_lt 0 turn.left
+
+-- A ready end may be read if it isn't bulky, or if the turn is its own and it doesn't give way or its peer can't be written.
 abbrev pub is_read_now : List (Option End) → Turn → ℕ → Bool
 is_read_now ends turn n =
     is_prompt (slice_index_or ends n None)
     || ((n == turn.who)
     && (is_bulky (slice_index_or ends n None)
-    && not (turn.peer_drains && is_write_ready (slice_index_or ends (other_end n) None))))
+    && not (gives_way turn && is_write_ready (slice_index_or ends (other_end n) None))))
 
 -- a want with a mark at what can be done, by the sets, as if the end with this number could be read too
 abbrev pub marked_with : NumberSetValue → NumberSetValue → ℕ → Want → Want
@@ -90,16 +94,16 @@ abbrev pub SomeMarked : List (Option End) → WantsValue → WantsValue → Poll
 SomeMarked ends old new (polled.Ready accept) = list_any (wants_ready ends) (named old) ≡ true → 0 < length new.list
 SomeMarked ends old new polled.Failed = ⊤
 
--- Nobody is passed over for ever. Through some polls, at which others may come and go, an end takes turns and never has its own; each
--- end that takes turns has a number below that of the sides. Then the polls are fewer than 64 for each side.
-pub record PassedOver (takes : ℕ → ℕ → Bool) (turns : ℕ → Turn) (sides end polls : ℕ) : Type 0 where
-  pub went : (k : ℕ) → k < polls → TurnWent (takes k) (turns k) (turns (k + 1))
-  pub waits : (k : ℕ) → k < polls → takes k end ≡ true
-  pub passed : (k : ℕ) → k < polls → (turns (k + 1)).who ≡ end → ⊥
-  pub few : (k n : ℕ) → k < polls → takes k n ≡ true → n < sides
+-- Nobody is passed over for ever. Through some polls, at which others may come and go, an end takes turns and is never marked; each end
+-- that takes turns has a number below that of the sides. Then the polls are fewer than 64 for each side, and 64.
+pub record PassedOver (tables : ℕ → WantsValue) (ends : ℕ → List (Option End)) (turns : ℕ → Turn) (sides end polls : ℕ) : Type 0 where
+  pub went : (k : ℕ) → k < polls → TurnWent (takes_turns (tables k) (ends k)) (turns k) (turns (k + 1))
+  pub waits : (k : ℕ) → k < polls → takes_turns (tables k) (ends k) end ≡ true
+  pub passed : (k : ℕ) → k < polls → is_read_now (ends k) (turns (k + 1)) end ≡ false
+  pub few : (k n : ℕ) → k < polls → takes_turns (tables k) (ends k) n ≡ true → n < sides
   pub first : (turns 0).who < sides
   pub short : (turns 0).left < 64
 
-abbrev pub EachHasItsTurn : Type 0
-EachHasItsTurn = (takes : ℕ → ℕ → Bool) (turns : ℕ → Turn) (sides end polls : ℕ) → PassedOver takes turns sides end polls
-    → polls < 64 * sides
+abbrev pub EachIsReadInTime : Type 0
+EachIsReadInTime = (tables : ℕ → WantsValue) (ends : ℕ → List (Option End)) (turns : ℕ → Turn) (sides end polls : ℕ)
+    → PassedOver tables ends turns sides end polls → polls < 64 * sides + 64

@@ -19,4 +19,4 @@ mod socket_log;
 mod turn;
 
 pub use mio_port::MioPort;
-pub use turn::each_has_its_turn;
+pub use turn::each_is_read_in_time;

@@ -1,7 +1,7 @@
 // Bulky ends are read in turns. What a poll marks by that stands beside the ends.
 ghost use Rattle.std.specs.Prelude.{◌≡◌, ℕ, ◌+◌, ◌^◌, ◌<◌, ◌≤◌, ◌&&◌, false, IfSome};
 ghost use Rattle.number_set.specs.Next.{IsNext};
-ghost use Rattle.mio_port.specs.ReadTurns.{in_turn, other_end, EachHasItsTurn, GoesTo, TurnWent};
+ghost use Rattle.mio_port.specs.ReadTurns.{gives_way, in_turn, other_end, EachIsReadInTime, GoesTo, TurnWent};
 
 use ev_port::WantTable;
 use number_set::NumberSet;
@@ -53,14 +53,22 @@ impl Turn {
             None => Turn { left: 0, ..self },
         }
     }
+
+    /// The end gives way to its peer while that drains, but not at the last poll of the turn, so that no turn goes by without
+    /// a read.
+    pub(crate) fn gives_way(self) -> bool
+        ensures { result ≡ gives_way self }
+    {
+        self.peer_drains && self.left > 0
+    }
 }
 
-/// A bulky end that is wanted and ready has its turn within 64 polls for each side: its wait is no longer, whoever else comes
-/// and goes. A law about turns; it does nothing.
+/// A bulky end that is wanted and ready is marked within 64 polls for each side, and 64: its wait is no longer, whoever else
+/// comes and goes and however little its peer takes. A law about turns; it does nothing.
 ///
 /// Own.
-pub fn each_has_its_turn()
-    ensures { EachHasItsTurn }
+pub fn each_is_read_in_time()
+    ensures { EachIsReadInTime }
 {}
 
 /// The number of the other end of the link.

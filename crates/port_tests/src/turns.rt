@@ -1,4 +1,4 @@
-// Bulky ends over loopback: they are read in turns, and not while their peer drains and can be written.
+// Bulky ends over loopback: they are read in turns, and while their peer drains and can be written only at the last poll of a turn.
 use crate::acts::{IN_0, OUT_0, READING, WRITING, want};
 use crate::loopback::{RealPort, World, is_marked, new_world};
 use crate::steps::{empties, fills};
@@ -38,6 +38,24 @@ fn lists(port: &mut RealPort<'_>, table: &mut WantTable, owed: &[Want], polls: u
         }
     }
     true
+}
+
+/// How many of so many polls list these wants. The others list what is usual; None where one lists something else.
+fn count_lists(
+    port: &mut RealPort<'_>,
+    table: &mut WantTable,
+    counted: &[Want],
+    usual: &[Want],
+) -> Option<usize> {
+    let mut count = 0;
+    for _ in 0..POLLS {
+        if lists(port, table, counted, 1) {
+            count += 1;
+        } else if table.list() != usual {
+            return None;
+        }
+    }
+    Some(count)
 }
 
 /// A table of a link of which both sides want to read.
@@ -106,29 +124,30 @@ fn drains(world: &mut World<'_>, count: usize) -> Result<bool, Fail> {
     Ok(empties(far, count)? && is_marked(&mut world.port, OUT_0, WRITING))
 }
 
-/// Whether what has the turn is read beside a write to its peer: before the first one, not behind one that came short, unless
-/// the peer is full or nothing waits for it; not behind one that took all while something waits still, and again behind a
-/// poll at which nothing did.
+/// Whether what has the turn is read beside a write to its peer: before the first one; behind one that came short at one of the
+/// polls of a turn, or where the peer is full or nothing waits for it; no more often behind one that took all while something
+/// waits still; and again behind a poll at which nothing did.
 fn drains_first(world: &mut World<'_>, table: &mut WantTable) -> Result<[bool; 7], Fail> {
     let writes = want((OUT_0, WRITING, WRITING));
     wants(table, OUT_0, false, true);
-    let first = lists(&mut world.port, table, &[READS_IN, writes], POLLS);
+    let both = [READS_IN, writes];
+    let first = lists(&mut world.port, table, &both, POLLS);
     let Some(taken) = fills(&mut world.port, OUT_0) else {
         return Err(Fail::new("the end was never full"));
     };
     let full = lists(&mut world.port, table, &[READS_IN], 1);
     let drained = drains(world, taken)?;
-    let drains = drained && lists(&mut world.port, table, &[writes], POLLS);
+    let drains = drained && count_lists(&mut world.port, table, &both, &[writes]) == Some(1);
     wants(table, OUT_0, false, false);
     let unwanted = lists(&mut world.port, table, &[READS_IN], 1);
     wants(table, OUT_0, false, true);
     let short = lists(&mut world.port, table, &[writes], 1);
     let took = world.port.write(OUT_0, b"x") == WriteAnswer::Took(1);
-    let more = took && lists(&mut world.port, table, &[writes], POLLS);
+    let more = took && count_lists(&mut world.port, table, &both, &[writes]) == Some(1);
     wants(table, OUT_0, false, false);
     let given = lists(&mut world.port, table, &[READS_IN], 1);
     wants(table, OUT_0, false, true);
-    let again = given && lists(&mut world.port, table, &[READS_IN, writes], POLLS);
+    let again = given && lists(&mut world.port, table, &both, POLLS);
     Ok([first, full, drains, unwanted, short, more, again])
 }
 

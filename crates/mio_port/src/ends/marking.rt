@@ -3,7 +3,7 @@ ghost use Rattle.std.specs.Prelude.{◌≡◌, ◌&&◌, not, None, map, slice_i
 ghost use Rattle.std.specs.List.{list_any};
 ghost use Rattle.ev_port.specs.Table.{RowsStay, named};
 ghost use Rattle.mio_port.specs.EndPlaces.{came_short, can_read, can_write, marked, wants_ready};
-ghost use Rattle.mio_port.specs.ReadTurns.{ListedInTurn, drains_now, other_end};
+ghost use Rattle.mio_port.specs.ReadTurns.{ListedInTurn, drains_now, gives_way, other_end};
 
 use super::Ends;
 use crate::end::End;
@@ -62,7 +62,7 @@ impl Ends {
     }
 
     /// Lists in a table what it wants and can be done, with the marks; of the bulky ends only that whose turn it is by now, and
-    /// not while its peer drains and can be written. Only the sets are looked at, and that peer.
+    /// not while it gives way to a peer that can be written. Only the sets are looked at, and that peer.
     pub(crate) fn mark_table(&mut self, turn: Turn, wants: &mut WantTable) -> Turn
         ensures stays { self.new.ends ≡ self.old.ends }
         ensures rows { RowsStay wants.old wants.new }
@@ -91,15 +91,15 @@ impl Ends {
         is_waited_for && (came_short(&self.ends, peer) || (before.peer_drains && before.who == who))
     }
 
-    // A bulky end that is ready is read in its turn, but not while its peer drains and can be written. A peer that keeps up is given
+    // A bulky end that is ready is read in its turn, but not while it gives way to a peer that can be written. A peer that keeps up is given
     // what was read a turn before, at most one read's worth (16,384 bytes in the relay), and doesn't hold it up: the one is read
     // and the other written in one turn.
     fn is_read_first(&self, turn: Turn) -> bool
         ensures { result ≡ (self.now.ready.bulky.has turn.who
-            && not (turn.peer_drains && self.now.ready.writable.has (other_end turn.who))) }
+            && not (gives_way turn && self.now.ready.writable.has (other_end turn.who))) }
     {
         self.ready.bulky.contains(turn.who)
-            && !(turn.peer_drains && self.ready.writable.contains(other_end(turn.who)))
+            && !(turn.gives_way() && self.ready.writable.contains(other_end(turn.who)))
     }
 
     fn marked(&self, want: Want) -> Want
