@@ -75,4 +75,5 @@ IsOfTurns part = (begins_turn part ≡ true) ⊎ (part ≡ [])
 abbrev pub DrainedLinksAreDone : Type 0
 DrainedLinksAreDone = (g : Settings) (turns : List ScriptTurn) (t : Trace) (links : List LinkCount) → CanDrain g turns →
     LeavesRoom g → IsCountable g turns → IsRelayed g TurnAnswer.Went t links → IsAnswered turns (closing_step g) t →
-    AlwaysTookAll turns g.links [] t → TookAll turns g.links t → (run : Drains turns g TurnAnswer.Went t) → IsOfTurns run.closing → AllLinksDone turns t
+    AlwaysTookAll turns g.links [] t → TookAll turns g.links t → (run : Drains turns g TurnAnswer.Went t) → IsOfTurns run.closing →
+    AllLinksDone turns t

@@ -40,7 +40,8 @@ pub drained-where : (how : Ending) (turns : List ScriptTurn) (g : Settings) (ans
     AlwaysTookAll turns g.links [] t → EndsPlayed turns g.links (length turns + closing) answer t →
     EndsAs how turns g answer closing t → DrainsWhereItCan how turns g answer t
 drained-where ending.LastTurn turns g answer t links _ _ _ _ _ _ _ _ _ _ _ is _ _ = absurd (cc is)
-drained-where ending.Drained turns g TurnAnswer.Went t links closing small names behind many room relayed answered took played ends _ _ can =
+drained-where ending.Drained turns g TurnAnswer.Went t links closing small names behind many room relayed answered took played ends _ _
+    can =
     drained-so turns g t links closing small names behind many room relayed answered took played can ends
 drained-where ending.Drained turns g TurnAnswer.PollFault t links _ _ _ _ _ _ _ _ _ _ _ _ went _ = absurd (cc went)
 drained-where ending.Drained turns g (TurnAnswer.Stopped link) t links _ _ _ _ _ _ _ _ _ _ _ _ went _ = absurd (cc went)

@@ -57,8 +57,8 @@ run-of script how handed answer t x s closing is links timeouts holds fit small 
       played = played;
       ends = ends_so;
       drained = drained-where how script.turns g answer t (lines_below s s.plain.opened) closing small names behind
-          (sym (ap (λ (z : Settings). z.links) is) ∙ links) (subst LeavesRoom is (leaves-room s.settings holds k.groups)) relayed played.answered
-          played.took_all played.turns ends_so;
+          (sym (ap (λ (z : Settings). z.links) is) ∙ links) (subst LeavesRoom is (leaves-room s.settings holds k.groups)) relayed
+          played.answered played.took_all played.turns ends_so;
       polls = polls_fail_as_scripted g answer script.turns (closing_step g) t played.answered legal;
       asked = asked;
       read_back = trace_of-trace_text t (stood_is_spellable t x s k (omega (arith, links)) timeouts asks reads);

@@ -14,7 +14,8 @@ use Rattle.ev_port.proofs.NamedLemmas.{number-side_of}
 use Rattle.mio_port.specs.declared.end.End.{End}
 use Rattle.mio_port.specs.declared.turn.Turn.{Turn}
 use Rattle.mio_port.specs.EndPlaces.{is_bulky, is_prompt, is_read_ready, is_write_ready, wants_ready, came_short}
-use Rattle.mio_port.specs.ReadTurns.{ListedInTurn, MarkedTable, SomeMarked, marked_in_turn, gives_way, is_read_now, other_end, drains_now, takes_turns}
+use Rattle.mio_port.specs.ReadTurns.{ListedInTurn, MarkedTable, SomeMarked, marked_in_turn, gives_way, is_read_now, other_end}
+use Rattle.mio_port.specs.ReadTurns.{drains_now, takes_turns}
 use Rattle.mio_port.proofs.TableMarkLemmas.{ready-parts}
 use Rattle.mio_port.proofs.TurnLemmas.{turn-takes}
 

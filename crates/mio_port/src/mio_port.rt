@@ -182,8 +182,8 @@ impl<'a, R: Net + Clock + AllocGlobal> MioPort<'a, R> {
 /// - `poll_table` marks what `poll` would mark of the same wants, but of the bulky ends, those one of whose last two reads filled
 ///   its room, at most one for reading, in turns of 64 polls. While the turn stays, that end isn't read from a write to its
 ///   peer that came short until a poll finds that nothing waits for the peer, but where the peer can't be written and at the
-///   last poll of the turn. It waits as long. It doesn't go over the wants: it joins the table's sets of numbers and the port's, and passes over 4,096 numbers
-///   at a time where none is in the set.
+///   last poll of the turn. It waits as long. It doesn't go over the wants: it joins the table's sets of numbers and the port's,
+///   and passes over 4,096 numbers at a time where none is in the set.
 /// - `accept` makes both ends with `TCP_NODELAY`. The Out end is never connected yet: its check decides, also where its
 ///   connection couldn't be begun. `NoMemory` comes before anything is accepted. `NotYet` comes for a link that was
 ///   accepted before, where none waits, where one went before it was taken or came with an error of the network, and where the

@@ -91,9 +91,9 @@ impl Ends {
         is_waited_for && (came_short(&self.ends, peer) || (before.peer_drains && before.who == who))
     }
 
-    // A bulky end that is ready is read in its turn, but not while it gives way to a peer that can be written. A peer that keeps up is given
-    // what was read a turn before, at most one read's worth (16,384 bytes in the relay), and doesn't hold it up: the one is read
-    // and the other written in one turn.
+    // A bulky end that is ready is read in its turn, but not while it gives way to a peer that can be written. A peer that keeps
+    // up is given what was read a turn before, at most one read's worth (16,384 bytes in the relay), and doesn't hold it up: the
+    // one is read and the other written in one turn.
     fn is_read_first(&self, turn: Turn) -> bool
         ensures { result ≡ (self.now.ready.bulky.has turn.who
             && not (gives_way turn && self.now.ready.writable.has (other_end turn.who))) }
