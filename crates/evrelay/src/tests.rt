@@ -10,6 +10,7 @@ use std::sync::Wait;
 use std::test::Fail;
 
 mod failed_calls;
+mod hooks;
 mod sockets;
 
 /// What a run of the program is owed to come to: the status of the process, its report, and what it says on standard error.
