@@ -50,7 +50,7 @@ fn count_lists(
     let mut count = 0;
     for _ in 0..POLLS {
         if lists(port, table, counted, 1) {
-            count += 1;
+            count = count.saturating_add(1);
         } else if table.list() != usual {
             return None;
         }
