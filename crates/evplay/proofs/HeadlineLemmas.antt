@@ -1,5 +1,7 @@
 -- A trace for which a relay stands, and which is played from a script, is that of a run of that script.
-use Rattle.std.proofs.Common.{◌≡◌, ◌<◌, ℕ, true, subst, arith, sym, ap, ◌∙◌}
+use Rattle.std.proofs.Common.{◌≡◌, ◌<◌, ℕ, zero, suc, List, [], ◌∷◌, Some, true, subst, arith, sym, ap, ◌∙◌}
+use Rattle.std.specs.Prelude.{slice_get}
+use Rattle.std.specs.List.{AllByRecursion}
 use Rattle.ev_types.specs.ScriptTurn.{lines_of}
 use Rattle.ev_types.specs.Trace.{Trace}
 use Rattle.ev_types.specs.AskNumbers.{AsksFit}
@@ -17,7 +19,6 @@ use Rattle.relay_model.specs.Script.{closing_step, plan_of}
 use Rattle.relay_model.proofs.PollLemmas.{polls_fail_as_scripted}
 use Rattle.relay_state.specs.State.{State}
 use Rattle.relay_steps.specs.Meaning.{StandsFor, HasItsGroups}
-use Rattle.relay_steps.proofs.GroupedSteps.{all-get}
 use Rattle.relay_laws.specs.TurnEnds.{AtTurnEnds}
 use Rattle.relay_laws.specs.Report.{lines_below}
 use Rattle.relay_laws.specs.Relayed.{StoodBetween, IsRelayed}
@@ -29,11 +30,18 @@ use Rattle.evplay.specs.HandedIn.{HandedIn}
 use Rattle.evplay.specs.Headline.{EndsAs, IsRun, settings_on, script_run}
 use Rattle.evplay.specs.Run.{AreSmall}
 use Rattle.evplay.proofs.DrainedLemmas.{drained-where}
+use Rattle.evplay.proofs.ScriptLemmas.{some-is}
+
+share-some : (xs : List GroupSet) → AllByRecursion (λ (y : GroupSet). 0 < y.share) xs → (n : ℕ) (x : GroupSet) →
+    slice_get xs n ≡ Some x → 0 < x.share
+share-some [] h n x is = absurd (cc)
+share-some (y ∷ ys) h zero x is = subst (λ (z : GroupSet). 0 < z.share) (some-is y x is) h.0
+share-some (y ∷ ys) h (suc n) x is = share-some ys h.1 n x is
 
 -- settings that have their groups leave room for bytes where the hold mark isn't 0
 leaves-room : (g : Settings) → HoldsSome g → HasItsGroups g → LeavesRoom g
 leaves-room g holds groups =
-    record { holds = holds; shares = λ n x is. all-get (λ (y : GroupSet). 0 < y.share) g.groups groups.shares n x is }
+    record { holds = holds; shares = λ n x is. share-some g.groups groups.shares n x is }
 
 -- What is played, at a stage at which a turn may answer so, is a run that ended with this answer, where what the script brings in
 -- fits, and what was asked.
