@@ -46,8 +46,8 @@ fn count_lists(
     table: &mut WantTable,
     counted: &[Want],
     usual: &[Want],
-) -> Option<usize> {
-    let mut count = 0;
+) -> Option<u32> {
+    let mut count = 0u32;
     for _ in 0..POLLS {
         if lists(port, table, counted, 1) {
             count = count.saturating_add(1);
