@@ -2,7 +2,7 @@
 -- isn't there.
 use Rattle.std.specs.Prelude.{◌≡◌, ◌≢◌, ◌⊎◌, ℕ, ◌+◌, ◌-◌, ◌*◌, ◌^◌, ⊤, Bool, true, false, ◌&&◌, List, [], ◌∷◌, map}
 use Rattle.std.specs.Prelude.{Option, Some, None, Result, Ok}
-use Rattle.std.specs.Prelude.{Err, MatchOption, slice_index_or}
+use Rattle.std.specs.Prelude.{Err, IsSomeAnd, MatchOption, option_map, slice_index_or}
 use Rattle.std.specs.declared.io.ErrorKind.{ErrorKind}
 use Rattle.std.specs.declared.io.ErrorKind.TheVariants as kind
 use Rattle.ev_types.specs.declared.addr.Addr.{Addr}
@@ -18,8 +18,9 @@ use Rattle.mio_port.specs.declared.acceptor.Listener.{Listener}
 use Rattle.mio_port.specs.declared.acceptor.NoLink.{NoLink}
 use Rattle.mio_port.specs.declared.acceptor.NoLink.TheVariants as no_link
 use Rattle.mio_port.specs.declared.end.End.{End}
+use Rattle.mio_port.specs.declared.kernel.Kernel.{Kernel}
 use Rattle.mio_port.specs.declared.socket_call.SocketCall.TheVariants as call
-use Rattle.mio_port.specs.Acceptor.{addr_of, is_open, faulty_acceptor, paused_acceptor}
+use Rattle.mio_port.specs.Acceptor.{addr_of, is_open, faulty_acceptor, refused_acceptor}
 use Rattle.mio_port.specs.EndPlaces.{PlacesStay, holds, marked, unmarked}
 
 -- Starting
@@ -79,17 +80,39 @@ no_link_answer no_link.Again = accepted.NotYet
 no_link_answer no_link.Scarce = accepted.NotYet
 no_link_answer no_link.Failed = accepted.Failed
 
--- The listener behind an accept: only one that found none may leave it not ready, or paused from this time on.
-abbrev pub AcceptorAsked : Acceptor → Acceptor → ℕ → Accepted → Type 0
-AcceptorAsked old new time (accepted.Link connected) = new ≡ old
-AcceptorAsked old new time accepted.NotYet = (new ≡ old) ⊎ ((new ≡ record old { ready = false }) ⊎ (new ≡ paused_acceptor old time))
-AcceptorAsked old new time accepted.Failed = new ≡ faulty_acceptor old
-AcceptorAsked old new time accepted.NoMemory = new ≡ old
-
 -- two ends that were just made met no fault
 abbrev pub HasNoFault : Result (End × End) NoLink → Type 0
 HasNoFault (Ok ends) = (ends.0.faults ≡ 0) × (ends.1.faults ≡ 0)
 HasNoFault (Err why) = ⊤
+
+-- No link is made where there is no listener, of which nothing is told; or since the system refused a call, for the reason that is told.
+abbrev pub ToldWhy : Kernel → Acceptor → Kernel → NoLink → Type 0
+ToldWhy old d new why =
+    ((d.listener ≡ None) × (why ≡ no_link.NoneWaits) × (new.log ≡ old.log)) ⊎ (new.log.calls ≡ (call.NoLink why, []) ∷ old.log.calls)
+
+-- so it is from one kernel to the next; before the first start none waits
+abbrev pub ToldBy : Option Kernel → Acceptor → Option Kernel → NoLink → Type 0
+ToldBy None d new why = why ≡ no_link.NoneWaits
+ToldBy (Some old) d new why = IsSomeAnd new (λ k. ToldWhy old d k why)
+
+-- why there are no two ends is told; of those that were made nothing is
+abbrev pub ToldPair : Option Kernel → Acceptor → Option Kernel → Result (End × End) NoLink → Type 0
+ToldPair old d new (Ok ends) = option_map (λ k. k.log) new ≡ option_map (λ k. k.log) old
+ToldPair old d new (Err why) = ToldBy old d new why
+
+-- An accept at this time made no link: why is told, and the answer and the listener are as that says.
+pub record CameToNone (old new : Option Kernel) (d d' : Acceptor) (time : ℕ) (answer : Accepted) : Type 0 where
+  pub why : NoLink
+  pub told : ToldBy old d new why
+  pub answered : answer ≡ no_link_answer why
+  pub listener : d' ≡ refused_acceptor d why time
+
+-- an accept of a link that wasn't there; where one is made, or where memory runs out before it is asked for, the listener is as it was
+abbrev pub AskedFor : Option Kernel → Option Kernel → Acceptor → Acceptor → ℕ → Accepted → Type 0
+AskedFor old new d d' time (accepted.Link connected) = d' ≡ d
+AskedFor old new d d' time accepted.NotYet = CameToNone old new d d' time accepted.NotYet
+AskedFor old new d d' time accepted.Failed = CameToNone old new d d' time accepted.Failed
+AskedFor old new d d' time accepted.NoMemory = d' ≡ d
 
 -- a link was not made
 abbrev pub IsNoLink : Accepted → Type 0

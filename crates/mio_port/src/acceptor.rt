@@ -1,6 +1,7 @@
 // The listener, where its links are connected to, and when it can be asked for another link.
-ghost use Rattle.std.specs.Prelude.{◌≡◌, ◌∷◌, [], None, Some, is_none, is_some, true, false, Ok, Err, IfOk, MatchResult};
+ghost use Rattle.std.specs.Prelude.{◌≡◌, ◌∷◌, [], None, Some, is_none, is_some, true, false, Err, IfOk, if◌then◌else◌};
 ghost use Rattle.mio_port.specs.Acceptor.{no_link_of, addr_of, shut_acceptor, opened_acceptor, is_open, after_time, faulty_acceptor};
+ghost use Rattle.mio_port.specs.Kernels.{told_link};
 
 use crate::kernel::Kernel;
 use crate::scarce::{came_broken, is_scarce};
@@ -49,7 +50,8 @@ pub(crate) enum NoLink {
     Failed,
 }
 
-fn no_link_of(error: &io::Error) -> NoLink
+/// What an error on the way to a link means.
+pub(crate) fn no_link_of(error: &io::Error) -> NoLink
     ensures { result ≡ no_link_of error.now }
 {
     match error.kind() {
@@ -58,16 +60,6 @@ fn no_link_of(error: &io::Error) -> NoLink
         _ if is_scarce(error) => NoLink::Scarce,
         _ if came_broken(error) => NoLink::Again,
         _ => NoLink::Failed,
-    }
-}
-
-/// What a call on the way to a link made, or why there is none.
-pub(crate) fn link_of<T>(outcome: io::Result<T>) -> Result<T, NoLink>
-    ensures { MatchResult outcome (λ made. result ≡ Ok made) (λ error. result ≡ Err (no_link_of error)) }
-{
-    match outcome {
-        Ok(made) => Ok(made),
-        Err(error) => Err(no_link_of(&error)),
     }
 }
 
@@ -208,15 +200,16 @@ impl Acceptor {
         self.faults = self.faults.saturating_add(1);
     }
 
-    /// Asks for a connection, while a descriptor is kept for its other end. It changes nothing here.
-    pub(crate) fn ask(&self, _kernel: &Kernel) -> Result<Socket, NoLink>
-        requires kept { is_some _kernel.now.spare ≡ true }
+    /// Asks for a connection, while a descriptor is kept for its other end; why there is none is told. It changes nothing here.
+    pub(crate) fn ask(&self, kernel: &mut Kernel) -> Result<Socket, NoLink>
+        requires kept { is_some kernel.old.spare ≡ true }
+        ensures told { kernel.new ≡ (if is_some self.now.listener then told_link kernel.old result else kernel.old) }
         ensures none { is_none self.now.listener ≡ true → result ≡ Err NoLink.NoneWaits }
         ensures came { IfOk result (λ socket. socket.log.calls ≡ (SocketCall.Came, []) ∷ []) }
     {
         let Some(listener) = &self.listener else {
             return Err(NoLink::NoneWaits);
         };
-        link_of(Socket::came(&listener.socket))
+        kernel.link_of(Socket::came(&listener.socket))
     }
 }

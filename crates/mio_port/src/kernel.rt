@@ -1,5 +1,6 @@
 // The kernel's reports: what is watched, how often it is asked, and what it told.
-ghost use Rattle.std.specs.Prelude.{◌≡◌, ◌<◌, ◌-◌, ◌*◌, ◌^◌, ◌∷◌, [], true, false, is_none, is_some, is_ok, IfErr, IfOk, OnOk, option_map};
+ghost use Rattle.std.specs.Prelude.{◌≡◌, ◌<◌, ◌-◌, ◌*◌, ◌^◌, ◌∷◌, [], true, false, is_none, is_some, option_map};
+ghost use Rattle.std.specs.Prelude.{is_ok, Ok, Err, IfErr, IfOk, OnOk, MatchResult};
 ghost use Rattle.std.specs.IoError.{raw_os_error};
 ghost use Rattle.std.specs.Duration.{as_nanos};
 ghost use Rattle.mio_port.specs.OneEnd.{fresh};
@@ -7,16 +8,18 @@ ghost use Rattle.mio_port.specs.EndLeft.{AllHeard};
 ghost use Rattle.mio_port.specs.EndPlaces.{CountsStay};
 ghost use Rattle.mio.specs.Events.{capacity, items};
 ghost use Rattle.mio_port.specs.Reports.{AsReported};
+ghost use Rattle.mio_port.specs.Acceptor.{no_link_of};
 ghost use Rattle.mio_port.specs.Scarcity.{is_scarce};
 ghost use Rattle.mio_port.specs.Sockets.{watched};
 ghost use Rattle.mio_port.specs.Waiting.{looks_after, is_due, longest_wait};
 
-use crate::acceptor::{Acceptor, Listener};
+use crate::acceptor::{Acceptor, Listener, NoLink, no_link_of};
 use crate::end::{Connection, End};
 use crate::ends::Ends;
 use crate::scarce::is_scarce;
-use crate::socket::Socket;
+use crate::socket::{Socket, plain};
 use crate::socket_call::SocketCall;
+use crate::socket_log::SocketLog;
 use mio::{Events, Poll, Registry, Token};
 use std::alloc::{AllocGlobal, Global};
 use std::io;
@@ -33,8 +36,8 @@ pub(crate) const LOOK_EVERY: u32 = 16;
 const LISTENER: Token = Token(usize::MAX);
 
 /// What is watched, how many polls went by since the kernel was last asked, how long the last wait was to last at most and whether it
-/// worked, and a descriptor that is kept for the second end of a link, whose first one may take the last. The table has room for a report
-/// at least, since the system refuses to wait with none.
+/// worked, and a descriptor that is kept for the second end of a link, whose first one may take the last. The log tells why accepts came
+/// to no link. The table has room for a report at least, since the system refuses to wait with none.
 ///
 /// Own.
 #[derive(Drop)]
@@ -45,6 +48,7 @@ pub(crate) struct Kernel {
     most: Option<u64>,
     worked: bool,
     spare: Option<Registry>,
+    log: SocketLog,
     ghost below: { skipped < 16 },
     ghost room: { 0 < capacity events },
 }
@@ -59,6 +63,7 @@ impl Kernel {
             most: Some(0),
             worked: true,
             spare: None,
+            log: SocketLog::new(),
         })
     }
 
@@ -88,6 +93,7 @@ impl Kernel {
         ensures skipped { self.new.skipped ≡ self.old.skipped }
         ensures most { self.new.most ≡ self.old.most }
         ensures kept { is_some self.old.spare ≡ true → self.new.spare ≡ self.old.spare }
+        ensures log { self.new.log ≡ self.old.log }
     {
         if self.spare.is_none() {
             self.spare = Some(self.poll.registry().try_clone()?);
@@ -114,6 +120,7 @@ impl Kernel {
         ensures poll { self.new.poll ≡ self.old.poll }
         ensures skipped { self.new.skipped ≡ self.old.skipped }
         ensures most { self.new.most ≡ self.old.most }
+        ensures log { self.new.log ≡ self.old.log }
     {
         match Socket::begun(rt, to) {
             Err(error) if is_scarce(&error) => {
@@ -121,6 +128,22 @@ impl Kernel {
                 Socket::begun(rt, to)
             }
             begun => begun,
+        }
+    }
+
+    /// What a call on the way to a link made, or why there is none, which is told.
+    pub(crate) fn link_of<T>(&mut self, outcome: io::Result<T>) -> Result<T, NoLink>
+        ensures means { MatchResult outcome (λ made. result ≡ Ok made) (λ error. result ≡ Err (no_link_of error)) }
+        ensures told { MatchResult result (λ _. self.new ≡ self.old)
+            (λ why. self.new ≡ record self.old { log = record { calls = (SocketCall.NoLink why, []) ∷ self.old.log.calls } }) }
+    {
+        match outcome {
+            Ok(made) => Ok(made),
+            Err(error) => {
+                let why = no_link_of(&error);
+                self.log = self.log.then(&plain(SocketCall::NoLink(why)));
+                Err(why)
+            }
         }
     }
 

@@ -25,7 +25,7 @@ ghost use Rattle.mio_port.specs.EndPlaces.{PlaceWent, all_handed_on, holds, more
 ghost use Rattle.mio_port.specs.Kernels.{watch_of, HasSpare};
 ghost use Rattle.mio_port.specs.Asking.{PollLooked};
 ghost use Rattle.mio_port.specs.PollLeft.{PollLeft};
-ghost use Rattle.mio_port.specs.PortCalls.{Listens, start_refusal, acceptor_after_start, Marked, Accepts, MadeLink, AcceptorAsked};
+ghost use Rattle.mio_port.specs.PortCalls.{Listens, start_refusal, acceptor_after_start, Marked, Accepts, MadeLink, AskedFor};
 ghost use Rattle.mio_port.specs.ReadTurns.{MarkedTable, SomeMarked, other_end};
 ghost use Rattle.mio_port.specs.PortFaults.{IsFaultless, mio_faults, vouches_nothing, waits_untold};
 
@@ -299,10 +299,13 @@ impl<'a, R: Net + Clock + AllocGlobal> Port for MioPort<'a, R> {
     fn accept(&mut self, link: u32) -> Accepted
         ensures made { MadeLink self.old.ends.ends.items self.new.ends.ends.items link result }
         ensures ends_made { NewEnds self.new.ends.ends.items self.old.acceptor.target link result }
-        ensures listener { AcceptorAsked self.old.acceptor self.new.acceptor self.new.clock.last result }
         ensures steady { self.old.clock.last ≤ self.new.clock.last }
         ensures turn { self.new.turn ≡ self.old.turn }
         ensures kernel { watch_of self.new.kernel ≡ watch_of self.old.kernel }
+
+        // Where none was made, why, and what that leaves of the listener.
+        ensures listener { holds self.old.ends.ends.items link ≡ false →
+            AskedFor self.old.kernel self.new.kernel self.old.acceptor self.new.acceptor self.new.clock.last result }
 
         // Of a link that was accepted before nothing is asked, nor where memory runs out. Where its places are there it does not.
         ensures held { holds self.old.ends.ends.items link ≡ true → (result ≡ Accepted.NotYet) × (self.new ≡ self.old) }

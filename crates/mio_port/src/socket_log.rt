@@ -6,8 +6,8 @@ ghost use Rattle.mio_port.specs.SocketCalls.{CallMade};
 use crate::socket_call::CallBytes;
 use std::marker::Model;
 
-/// The calls that were made on a socket, the last one first. Only clauses read it; it takes no memory, and its methods do nothing when
-/// they run.
+/// The calls that were made on a socket, or were refused on the way to links, the last one first. Only clauses read it; it takes no
+/// memory, and its methods do nothing when they run.
 ///
 /// Own.
 #[derive(Drop)]

@@ -6,11 +6,11 @@ ghost use Rattle.ev_port.specs.Calls.{is_failed_accept};
 ghost use Rattle.mio_port.specs.Acceptor.{refused_acceptor, paused_acceptor};
 ghost use Rattle.mio_port.specs.EndLeft.{IsNewOut, IsNewPair};
 ghost use Rattle.mio_port.specs.Kernels.{watch, watch_of};
-ghost use Rattle.mio_port.specs.PortCalls.{HasNoFault, IsNoLink, no_link_answer};
+ghost use Rattle.mio_port.specs.PortCalls.{HasNoFault, IsNoLink, no_link_answer, ToldPair};
 ghost use Rattle.mio_port.specs.PortFaults.{mio_faults};
 
 use super::MioPort;
-use crate::acceptor::{NoLink, link_of};
+use crate::acceptor::NoLink;
 use crate::end::End;
 use crate::ends::{in_end, out_end};
 use crate::kernel::Kernel;
@@ -41,6 +41,7 @@ impl<R: Net + Clock + AllocGlobal> MioPort<'_, R> {
     pub(super) fn pair(&mut self, link: u32) -> Result<(End, End), NoLink>
         ensures pair { HasNoFault result }
         ensures made { IsNewPair link self.old.acceptor.target result }
+        ensures why { ToldPair self.old.kernel self.old.acceptor self.new.kernel result }
         ensures clock { self.new.clock ≡ self.old.clock }
         ensures ends { self.new.ends ≡ self.old.ends }
         ensures turn { self.new.turn ≡ self.old.turn }
@@ -51,10 +52,12 @@ impl<R: Net + Clock + AllocGlobal> MioPort<'_, R> {
         let Some(kernel) = &mut self.kernel else {
             return Err(NoLink::NoneWaits);
         };
-        link_of(kernel.keep_spare())?;
+        let kept = kernel.keep_spare();
+        kernel.link_of(kept)?;
         let socket = self.acceptor.ask(kernel)?;
         let target = self.acceptor.target();
-        let inside = link_of(kernel.end(socket, in_end(link).number()))?;
+        let inside = kernel.end(socket, in_end(link).number());
+        let inside = kernel.link_of(inside)?;
         let number = out_end(link).number();
         Ok((inside, outside(self.rt, kernel, target, number)))
     }
@@ -88,6 +91,7 @@ fn outside<R: Net>(rt: &R, kernel: &mut Kernel, target: Option<SocketAddr>, numb
     ensures faultless { result.faults ≡ 0 }
     ensures made { IsNewOut number target result }
     ensures rest { watch kernel.new ≡ watch kernel.old }
+    ensures log { kernel.new.log ≡ kernel.old.log }
 {
     let Some(target) = target else {
         return End::refused();
