@@ -5,8 +5,7 @@ use Rattle.ev_types.specs.Trace.{Trace}
 use Rattle.ev_port.specs.declared.port.Port as port
 use Rattle.ev_port.specs.declared.scribe.Scribe as scribe
 use Rattle.ev_port.specs.Faults.{Faults}
-use Rattle.relay_steps.specs.Meaning.{LeftFor}
-use Rattle.std.specs.Prelude.{IfSome, MatchResult}
+use Rattle.std.specs.Prelude.{IfSome}
 use Rattle.relay_state.specs.State.{State}
 use Rattle.relay_drive.specs.declared.fault.DriveFault.{DriveFault}
 use Rattle.relay_drive.specs.declared.fault.TurnEnd.{TurnEnd}
@@ -14,11 +13,9 @@ use Rattle.relay_drive.specs.declared.fault.TurnEnd.TheVariants as end
 use Rattle.relay_drive.specs.declared.run.Run.{Run}
 use Rattle.relay_drive.specs.DriveValue.{DriveValue, kept_of}
 use Rattle.relay_drive.specs.Advances.{Advances}
-use Rattle.relay_drive.specs.DriveStands.{StandsBetween, DriveWent, turn_answer_of, turn_end_of}
-use Rattle.relay_drive.specs.Known.{Point}
-use Rattle.relay_drive.specs.Moves.{EndsTold, TurnsTo}
-use Rattle.relay_drive.specs.Phases.{EndsTurn, CutTurn, is_open_fault}
-use Rattle.relay_drive.specs.Seats.{Telling, HooksTell, HooksTellBut}
+use Rattle.relay_drive.specs.DriveStands.{StandsBetween, DriveWent}
+use Rattle.relay_drive.specs.Moves.{EndsTold, TurnTold}
+use Rattle.relay_drive.specs.Seats.{Telling}
 use Rattle.relay_drive.specs.Steps.{Told}
 use Rattle.relay_drive.proofs.GoesLemmas.{Known}
 use Rattle.relay_drive.proofs.HookEvents.{asks_fit-append, ends-fit, cut_turn-fits}
@@ -77,10 +74,7 @@ pub went_all : {P S H : Type 0} (g : port.Ghosts P) (h : scribe.Ghosts S) (tells
     (x x' : Run × P × S) (hooks gone hooks' gone' : List (Option H)) {old new : DriveValue}
     (r r' : Option (Result TurnEnd DriveFault)) → old ≡ drive_value x.0 r → new ≡ drive_value x'.0 r' →
     EndsTold g h tells result x x' hooks gone hooks' gone' →
-    MatchResult result (λ end. TurnsTo g h Point.Accepted false (EndsTurn end) (LeftFor (turn_end_of end))
-    (HooksTell tells None hooks gone hooks' gone') (old, x.1, x.2) (new, x'.1, x'.2))
-    (λ fault. TurnsTo g h Point.Accepting (is_open_fault fault) (CutTurn fault) (LeftFor (turn_answer_of fault))
-    (HooksTellBut tells hooks gone hooks' gone') (old, x.1, x.2) (new, x'.1, x'.2))
+    TurnTold g h tells result (old, x.1, x.2) (new, x'.1, x'.2) hooks gone hooks' gone'
 went_all g h tells (Ok end) x x' hooks gone hooks' gone' r r' was now told =
     went_told (ends-leave end) (ends-fit end) {run = x.0} {run' = x'.0} r r' was now told
 went_all g h tells (Err fault) x x' hooks gone hooks' gone' r r' was now told =

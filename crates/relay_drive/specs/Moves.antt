@@ -5,6 +5,7 @@ use Rattle.ev_types.specs.Trace.{Trace}
 use Rattle.ev_port.specs.declared.port.Port as port
 use Rattle.ev_port.specs.declared.scribe.Scribe as scribe
 use Rattle.relay_model.specs.Settings.{Settings}
+use Rattle.relay_steps.specs.Meaning.{LeftFor}
 use Rattle.relay_state.specs.State.{State}
 use Rattle.relay_drive.specs.declared.fault.DriveFault.{DriveFault}
 use Rattle.relay_drive.specs.declared.fault.DriveFault.TheVariants as fault
@@ -16,7 +17,7 @@ use Rattle.relay_drive.specs.Phases.{is_open_fault, EndsTurn, CutTurn}
 use Rattle.relay_drive.specs.Seats.{Telling, HooksTell, HooksTellBut}
 use Rattle.relay_drive.specs.Known.{known, Point, Question}
 use Rattle.relay_drive.specs.Advances.{Advances}
-use Rattle.relay_drive.specs.DriveStands.{DriveWent}
+use Rattle.relay_drive.specs.DriveStands.{DriveWent, turn_answer_of, turn_end_of}
 
 -- what is done to the relay's state, with the entries that are put for it
 abbrev pub Change : Type 1
@@ -70,3 +71,19 @@ abbrev pub EndsTold : {P S H : Type 0} → port.Ghosts P → scribe.Ghosts S →
 EndsTold g h tells result old new hooks gone hooks' gone' =
     GetsTo g h result Point.Between Point.Accepted (λ end. Told (EndsTurn end) (HooksTell tells None hooks gone hooks' gone'))
     (λ fault. Told (CutTurn fault) (HooksTellBut tells hooks gone hooks' gone')) old new
+
+-- A turn of a drive ends so, or is cut off as its refusal says. Whatever trace the relay stood for, it stands for that trace with the
+-- turn's entries, where such an answer may come; and hooks tell what they say, but for one at most where the turn is refused.
+abbrev pub TurnTold : {P S H : Type 0} → port.Ghosts P → scribe.Ghosts S → Telling H → Result TurnEnd DriveFault →
+    DriveValue × P × S → DriveValue × P × S → List (Option H) → List (Option H) → List (Option H) → List (Option H) → Type 0
+TurnTold g h tells result old new hooks gone hooks' gone' =
+    MatchResult result
+    (λ end. TurnsTo g h Point.Accepted false (EndsTurn end) (LeftFor (turn_end_of end))
+    (HooksTell tells None hooks gone hooks' gone') old new)
+    (λ why. TurnsTo g h Point.Accepting (is_open_fault why) (CutTurn why) (LeftFor (turn_answer_of why))
+    (HooksTellBut tells hooks gone hooks' gone') old new)
+
+-- A call leaves the port and the scribe as they were, and every hook.
+abbrev pub TouchesNothing : {P S H : Type 0} → P × S → P × S → List (Option H) → List (Option H) → List (Option H) → List (Option H) →
+    Type 0
+TouchesNothing old new hooks gone hooks' gone' = (new.0 ≡ old.0) × (new.1 ≡ old.1) × (hooks' ≡ hooks) × (gone' ≡ gone)

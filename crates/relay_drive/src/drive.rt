@@ -4,12 +4,8 @@ ghost use Rattle.relay_state.specs.Counting.{link_count, open_below, buffered_be
 ghost use Rattle.relay_core.specs.GivenGroups.{AreGroups};
 ghost use Rattle.relay_drive.specs.declared.fault.DriveFault.TheVariants.{Memory, Spent};
 ghost use Rattle.relay_drive.specs.DriveValue.{new_drive, is_worn, kept_of};
-ghost use Rattle.relay_drive.specs.Phases.{EndsTurn, CutTurn, is_open_fault};
-ghost use Rattle.relay_drive.specs.Known.{Point};
-ghost use Rattle.relay_drive.specs.Moves.{TurnsTo};
-ghost use Rattle.relay_drive.specs.DriveStands.{turn_answer_of, turn_end_of};
-ghost use Rattle.relay_drive.specs.Seats.{telling, seated_sides, AreFresh, AreSeated, HooksTell, HooksTellBut};
-ghost use Rattle.relay_steps.specs.Meaning.{LeftFor};
+ghost use Rattle.relay_drive.specs.Moves.{TurnTold, TouchesNothing};
+ghost use Rattle.relay_drive.specs.Seats.{telling, seated_sides, AreFresh, AreSeated};
 
 use crate::agenda::{Agenda, next_link};
 use crate::fault::{DriveFault, TurnEnd};
@@ -105,28 +101,20 @@ impl Drive {
         requires seated { self.old.kept ≡ None → AreSeated self.old.state seats.old.hooks.items seats.old.gone.items }
 
         // A kept answer is given again, and nothing is done.
-        ensures kept { IfSome self.old.kept (λ answer.
-            (result ≡ answer) × (self.new ≡ self.old) × (port.new ≡ port.old) × (scribe.new ≡ scribe.old)
-            × (seats.new.hooks.items ≡ seats.old.hooks.items) × (seats.new.gone.items ≡ seats.old.gone.items)) }
+        ensures kept { IfSome self.old.kept (λ answer. (result ≡ answer) × (self.new ≡ self.old) × TouchesNothing (port.old, scribe.old)
+            (port.new, scribe.new) seats.old.hooks.items seats.old.gone.items seats.new.hooks.items seats.new.gone.items) }
 
         // A drive that came too far does nothing.
         ensures spent { self.old.kept ≡ None → is_worn self.old ≡ true →
-            (result ≡ Err Spent) × (self.new.state ≡ self.old.state) × (port.new ≡ port.old) × (scribe.new ≡ scribe.old)
-            × (seats.new.hooks.items ≡ seats.old.hooks.items) × (seats.new.gone.items ≡ seats.old.gone.items) }
+            (result ≡ Err Spent) × (self.new.state ≡ self.old.state) × TouchesNothing (port.old, scribe.old)
+            (port.new, scribe.new) seats.old.hooks.items seats.old.gone.items seats.new.hooks.items seats.new.gone.items }
 
-        // Every other turn goes through its phases, or a hook ends it, or it is cut off as its answer says. Whatever trace the relay stood
-        // for, it stands for that trace with the turn's entries, where such an answer may come. So the port vouches for it, is tied to it,
-        // and every link that waited was accepted, as it was before. Each hook was called for what the entries say and asked what they
-        // say; but for one at most, whichever it is, where the turn is refused.
-        ensures went { self.old.kept ≡ None → is_worn self.old ≡ false → MatchResult result
-            (λ end. TurnsTo P.Port S.Scribe Point.Accepted false (EndsTurn end) (LeftFor (turn_end_of end))
-            (HooksTell (telling (λ h. heard h) (λ h. asked h) (λ h. planned h)) None seats.old.hooks.items seats.old.gone.items
-            seats.new.hooks.items seats.new.gone.items)
-            (self.old, port.old, scribe.old) (self.new, port.new, scribe.new))
-            (λ fault. TurnsTo P.Port S.Scribe Point.Accepting (is_open_fault fault) (CutTurn fault) (LeftFor (turn_answer_of fault))
-            (HooksTellBut (telling (λ h. heard h) (λ h. asked h) (λ h. planned h)) seats.old.hooks.items seats.old.gone.items
-            seats.new.hooks.items seats.new.gone.items)
-            (self.old, port.old, scribe.old) (self.new, port.new, scribe.new)) }
+        // Every other turn goes through its phases, or a hook ends it, or it is cut off as its answer says. So the port vouches for the
+        // trace with its entries, is tied to it, and every link that waited was accepted, as it was before.
+        ensures went { self.old.kept ≡ None → is_worn self.old ≡ false →
+            TurnTold P.Port S.Scribe (telling (λ h. heard h) (λ h. asked h) (λ h. planned h)) result
+            (self.old, port.old, scribe.old) (self.new, port.new, scribe.new)
+            seats.old.hooks.items seats.old.gone.items seats.new.hooks.items seats.new.gone.items }
 
         ensures answer { self.new.kept ≡ kept_of result }
         ensures seated { self.new.kept ≡ None → AreSeated self.new.state seats.new.hooks.items seats.new.gone.items }
