@@ -151,7 +151,7 @@ returns-in-Err-clause-went g c =
     either (is_worn c.loop.drive)
     (λ worn. let k = c.in-Err.ensures.spent inv.calm worn in
     cut-spent model old mid new c.loop.drive c.turn.new.self.state c.in-Err.fault went stood.0.1 worn
-    (λ i. seen g.P.Port g.S.Scribe (k.2 i, k.3 i)) k.1 (same-fault k.0))
+    (λ i. seen g.P.Port g.S.Scribe (k.2.0 i, k.2.1 i)) k.1 (same-fault k.0))
     (λ fresh. let w = c.in-Err.ensures.went inv.calm fresh in
     let tied = tied-next g.P.Port g.S.Scribe Point.Accepting _ model old c.loop.drive c.turn.new.self c.stop_accepting.new.port
     c.turn.new.port
@@ -210,7 +210,7 @@ returns-in-Err-clause-asked g c =
     (telling (λ h. (goal.Hook-dyn g (h.vtable, h.value)).heard h.value) (λ h. (goal.Hook-dyn g (h.vtable, h.value)).asked h.value)
     (λ h. (goal.Hook-dyn g (h.vtable, h.value)).planned h.value))
     _ first c.loop.seats.hooks.items c.loop.seats.gone.items t old new
-    (subst (λ s. Grew old (g.S.Scribe.trace s) t) (sym k.3) went.list) inv.went.1)
+    (subst (λ s. Grew old (g.S.Scribe.trace s) t) (sym k.2.1) went.list) inv.went.1)
     (λ fresh. let w = c.in-Err.ensures.went inv.calm fresh in
     asked-cut
     (telling (λ h. (goal.Hook-dyn g (h.vtable, h.value)).heard h.value) (λ h. (goal.Hook-dyn g (h.vtable, h.value)).asked h.value)
