@@ -1,9 +1,10 @@
 -- Which links are watched stays right: a link is watched where a side of it may begin to wait for a moment, and the other sides are as
 -- they were.
 use Rattle.std.specs.Prelude.{slice_index_or, slice_set, if◌then◌else◌, is_some}
-use Rattle.std.proofs.Common.{◌≡◌, ◌≢◌, ℕ, zero, suc, ◌+◌, ◌*◌, ◌<◌, ◌≤◌, ◌==◌, Bool, true, false, ◌&&◌, nat_le, nat_eq}
+use Rattle.std.proofs.Common.{◌≡◌, ◌≢◌, ℕ, zero, suc, ◌+◌, ◌*◌, ◌<◌, ◌≤◌, ◌==◌, Bool, true, false, ◌&&◌, not, nat_le, nat_eq}
 use Rattle.std.proofs.Common.{List, [], ◌∷◌, ◌++◌, length, Option, Some, None, Result, Ok, Err, MatchResult, inl, inr, refl, sym, ◌∙◌, ap}
 use Rattle.std.proofs.Common.{subst, arith}
+use Rattle.std.proofs.lemmas.Bool.{cases_lt}
 use Rattle.std.proofs.lemmas.Bool.Decides.{eqb_tells}
 use Rattle.std.proofs.lemmas.List.{get_or-set_other, get_or_append_left}
 use Rattle.std.specs.Map.{remove_entry}
@@ -22,6 +23,7 @@ use Rattle.relay_model.specs.Asks.{enabled}
 use Rattle.relay_model.specs.Moments.{active_at}
 use Rattle.relay_model.proofs.PlainLemmas.{half-below}
 use Rattle.relay_state.specs.Closing.{in_side, out_side}
+use Rattle.relay_state.specs.State.{State}
 use Rattle.relay_state.specs.Passage.{Passage, read_part}
 use Rattle.relay_state.specs.Passing.{with_bad}
 use Rattle.relay_state.specs.Opening.{joined_where}
@@ -36,7 +38,7 @@ use Rattle.relay_core.specs.declared.ctl.Ctl.TheInside.{Inside}
 use Rattle.relay_core.proofs.RelayLemmas.{still_sound}
 use Rattle.relay_sides.specs.KeptLimits.{limit_gains}
 use Rattle.resting_links.specs.RestingValue.{RestingValue, side_moment, HasPlaces, Wakes, Rests, Lengthens}
-use Rattle.relay_core.specs.Timeless.{left_by, IsResting, IsWatching, IsGrouping}
+use Rattle.relay_core.specs.Timeless.{left_by, AreForgotten, AreOut, IsResting, IsWatching, IsGrouping, is_still_link}
 use Rattle.relay_core.proofs.GainLemmas.{IsAhead, gains-later}
 use Rattle.relay_core.proofs.HaltLemmas.{left-keeps, joined-keeps, joined_where-keeps}
 
@@ -465,3 +467,36 @@ changed_sound r s e f h is like = record {
   room = h.room;
   limits = h.limits;
 }
+
+-- Which links are watched yet, as one link after the other is looked at.
+
+pub forgotten-none : (s : State) (old : NumberSetValue) → AreForgotten s 0 old old
+forgotten-none s old = (λ n lt. absurd (omega (arith, lt)), λ n le. refl)
+
+-- none of those that come next is watched
+pub forgotten-all : (s : State) (old new : NumberSetValue) (from to : ℕ) → from ≤ to → AreOut new from to → AreForgotten s from old new →
+    AreForgotten s to old new
+forgotten-all s old new from to le out h = (
+  λ n lt. elim (cases_lt n from) [
+    | inl less ↦ h.0 n less
+    | inr more ↦ out n more lt ∙ sym (ap (λ b. b && not (is_still_link s n)) (sym (h.1 n more) ∙ out n more lt))
+  ],
+  λ n more. h.1 n (omega (arith, le, more)),
+)
+
+pub forgotten-next : (s : State) (old mid new : NumberSetValue) (from k : ℕ) → from ≤ k → AreOut mid from k → AreForgotten s from old mid →
+    ((n : ℕ) → new.has n ≡ (if n == k then mid.has n && not (is_still_link s n) else mid.has n)) → AreForgotten s (k + 1) old new
+forgotten-next s old mid new from k le out h now =
+    let upto = forgotten-all s old mid from k le out h in (
+      λ n lt. elim (eqb_tells n k) [
+        | inl here ↦ now n ∙ ap (λ z. if z then mid.has n && not (is_still_link s n) else mid.has n) here.0
+            ∙ ap (λ b. b && not (is_still_link s n)) (upto.1 n (let is = here.1 in omega (arith, is)))
+        | inr there ↦ now n ∙ ap (λ z. if z then mid.has n && not (is_still_link s n) else mid.has n) there.0
+            ∙ upto.0 n (let apart = there.1 in omega (arith, lt, apart))
+      ],
+      λ n more. elim (eqb_tells n k) [
+        | inl here ↦ absurd (let is = here.1 in omega (arith, is, more))
+        | inr there ↦ now n ∙ ap (λ z. if z then mid.has n && not (is_still_link s n) else mid.has n) there.0
+            ∙ upto.1 n (omega (arith, more))
+      ],
+    )

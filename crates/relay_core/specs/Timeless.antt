@@ -1,5 +1,5 @@
 -- At which sides time changes nothing, or nothing until a moment, and which links are watched for it.
-use Rattle.std.specs.Prelude.{◌≡◌, ℕ, ◌*◌, ◌<◌, ◌≤◌, Bool, true, false, ◌&&◌, nat_le, if◌then◌else◌, List, [], length}
+use Rattle.std.specs.Prelude.{◌≡◌, ℕ, ◌*◌, ◌<◌, ◌≤◌, Bool, true, false, ◌&&◌, not, nat_le, if◌then◌else◌, List, [], length}
 use Rattle.std.specs.Prelude.{Option, Some, None, option_map, option_to_list}
 use Rattle.token_bucket.specs.declared.limit.Dir.{Dir}
 use Rattle.token_bucket.specs.declared.limit.Dir.TheVariants as dir
@@ -13,7 +13,9 @@ use Rattle.relay_model.specs.Plain.{PlainSide, Standing, is_live, side_at}
 use Rattle.relay_model.specs.Moments.{is_timed}
 use Rattle.relay_state.specs.Running.{Gauge, held_at}
 use Rattle.relay_state.specs.State.{State, gauge_at}
+use Rattle.relay_state.specs.Closing.{in_side, out_side}
 use Rattle.relay_state.specs.Rooms.{allowance}
+use Rattle.relay_core.specs.RelayValue.{RelayValue}
 use Rattle.relay_sides.specs.KeptLimits.{limit_gains}
 use Rattle.relay_sides.specs.Links as links
 use Rattle.relay_sides.specs.Links.{Links}
@@ -44,6 +46,16 @@ pub record IsStillSide (s : State) (e : SideId) : Type 0 where
   pub reads : is_timed (side_at s.plain e) dir.Read ≡ false
   pub writes : is_timed (side_at s.plain e) dir.Write ≡ false
   pub unexpired : ((side_at s.plain e).live && (side_at s.plain e).expired) ≡ false
+
+-- whether that is so
+abbrev pub is_still_side : State → SideId → Bool
+is_still_side s e =
+    not (is_timed (side_at s.plain e) dir.Read) && not (is_timed (side_at s.plain e) dir.Write)
+    && not ((side_at s.plain e).live && (side_at s.plain e).expired)
+
+-- whether it is so of both sides of a link
+abbrev pub is_still_link : State → ℕ → Bool
+is_still_link s k = is_still_side s (in_side k) && is_still_side s (out_side k)
 
 -- Until a time the limit of a side, if it is live, leaves it something in a direction where it does now, and nothing where it doesn't.
 abbrev pub IsLeftAlike : ℕ → State → SideId → Type 0
@@ -82,3 +94,12 @@ pub record IsWatching (r : RestingValue) (time : ℕ) (k : Links) : Type 0 where
 pub record IsGrouping (grouped : NumberSetValue) (opened : ℕ) (members : List (ℕ × ℕ)) : Type 0 where
   pub covers : opened ≤ grouped.len
   pub beside : (e : SideId) → e.link < opened → grouped.has e.link ≡ false → group_of (number e) members ≡ None
+
+-- Of the links below a number those are watched that were and are not still, and of the others those that were.
+abbrev pub AreForgotten : State → ℕ → NumberSetValue → NumberSetValue → Type 0
+AreForgotten s to old new =
+    ((n : ℕ) → n < to → new.has n ≡ (old.has n && not (is_still_link s n))) × ((n : ℕ) → to ≤ n → new.has n ≡ old.has n)
+
+-- no opened link is watched that is still
+abbrev pub WatchesNoStill : RelayValue → Type 0
+WatchesNoStill r = (n : ℕ) → n < r.state.plain.opened → r.watched.has n ≡ true → is_still_link r.state n ≡ false

@@ -1,5 +1,5 @@
 // What limits and groups leave to sides, and what they lose as bytes are moved.
-ghost use Rattle.std.specs.Prelude.{◌≡◌, ◌<◌, ◌≤◌, ◌+◌, ◌&&◌, true, length, IfSome, is_some};
+ghost use Rattle.std.specs.Prelude.{◌≡◌, ℕ, ◌<◌, ◌≤◌, ◌+◌, ◌==◌, ◌&&◌, ◌||◌, true, length, IfSome, is_some};
 ghost use Rattle.ev_types.specs.Sides.{number};
 ghost use Rattle.rate_group.specs.Steps.{share_in, spent, left};
 ghost use Rattle.relay_model.specs.Plain.{side_at};
@@ -42,6 +42,7 @@ fn watch_where(resting: &mut RestingLinks, link: u32, told: bool)
     requires { HasPlaces (link + 1) resting.old }
     ensures more { Wakes resting.old resting.new }
     ensures there { told ≡ true → resting.new.watched.has link ≡ true }
+    ensures no_other { (n : ℕ) → resting.new.watched.has n ≡ (resting.old.watched.has n || (n == link && told)) }
 {
     if told {
         resting.watch(link as usize);
@@ -99,6 +100,8 @@ impl Ctl {
             record s { gauges = gauges_after side dir count s; groups = spent (number side) dir count s.groups }) }
         ensures fire { SameFire self.old self.new }
         ensures reads { self.new.spare_reads ≡ self.old.spare_reads }
+        ensures watched { (n : ℕ) → self.new.watched.has n ≡ (self.old.watched.has n
+            || (n == side.link && (side_at self.old.state.plain side).live && is_some (allowance self.old.state side dir))) }
     {
         if self.untimed {
             return;

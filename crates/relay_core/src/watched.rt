@@ -1,7 +1,8 @@
 // The links that are watched as time goes on: those of sides with a timeout, and some at which something changed since they were looked
 // at. A side with an empty bucket rests until the next tick of its limit.
-ghost use Rattle.std.specs.Prelude.{◌≡◌, ◌+◌, ◌^◌, ◌<◌, ◌≤◌, true, false, MatchOption};
+ghost use Rattle.std.specs.Prelude.{◌≡◌, ℕ, ◌+◌, ◌^◌, ◌<◌, ◌≤◌, ◌==◌, ◌&&◌, not, if◌then◌else◌, true, false, MatchOption, IfSome};
 ghost use Rattle.relay_core.specs.Timeless.{side_gains, AreOut, IsStillSide, AreTimeless, AreTimelessBeside};
+ghost use Rattle.relay_core.specs.Timeless.{is_still_side, is_still_link, AreForgotten};
 
 use crate::ctl::Ctl;
 use crate::relay::Relay;
@@ -27,6 +28,7 @@ impl Relay {
             (λ link. (from ≤ link) × (link < self.now.state.plain.opened) × (link + 1 < 2 ^ 32) × AreTimeless self.now.state from link) }
         ensures out { MatchOption result (AreOut self.now.watched from self.now.state.plain.opened)
             (λ link. AreOut self.now.watched from link) }
+        ensures watched { IfSome result (λ link. self.now.watched.has link ≡ true) }
     {
         let link = self.ctl.resting.watched().next(from as usize)?;
         if link < self.ctl.sides.opened() as usize {
@@ -41,7 +43,8 @@ impl Relay {
     ///
     /// Own.
     pub fn forget_timeless(&mut self)
-        ensures { self.new ≡ record self.old { watched = self.new.watched } }
+        ensures rest { self.new ≡ record self.old { watched = self.new.watched } }
+        ensures forgotten { AreForgotten self.old.state self.old.state.plain.opened self.old.watched self.new.watched }
     {
         let mut from = 0;
         while let Some(link) = self.next_watched(from) {
@@ -53,7 +56,9 @@ impl Relay {
     /// A link is watched no more where its sides wait for no moment, or for the next tick of a limit alone.
     fn forget_where_timeless(&mut self, link: u32)
         requires { link < self.old.state.plain.opened }
-        ensures { self.new ≡ record self.old { watched = self.new.watched } }
+        ensures rest { self.new ≡ record self.old { watched = self.new.watched } }
+        ensures forgotten { (n : ℕ) → self.new.watched.has n
+            ≡ (if n == link then self.old.watched.has n && not (is_still_link self.old.state n) else self.old.watched.has n) }
     {
         let near = SideId {
             link,
@@ -69,13 +74,14 @@ impl Relay {
 }
 
 impl Ctl {
-    ghost use Rattle.std.specs.Prelude.{◌&&◌, option_to_list};
+    ghost use Rattle.std.specs.Prelude.{is_some, option_to_list};
     ghost use Rattle.relay_state.specs.State.{gauge_at};
     ghost use Rattle.relay_model.specs.Plain.{side_at};
     ghost use Rattle.relay_model.specs.Moments.{is_timed};
     ghost use Rattle.std.specs.Prelude.{None};
     ghost use Rattle.ev_types.specs.Sides.{number};
-    ghost use Rattle.rate_group.specs.Steps.{group_of};
+    ghost use Rattle.rate_group.specs.Steps.{group_of, share_in};
+    ghost use Rattle.token_bucket.specs.declared.limit.Dir.TheVariants as dir;
 
     /// Whether the side is live and has a timeout for the direction.
     pub(crate) fn is_timed(&self, side: SideId, dir: Dir) -> bool
@@ -109,7 +115,8 @@ impl Ctl {
     /// Whether the side has no timeout, if it is live, and has not expired.
     fn is_timeless(&self, side: SideId) -> bool
         requires { side.link < self.now.state.plain.opened }
-        ensures { result ≡ true → IsStillSide self.now.state side }
+        ensures still { result ≡ true → IsStillSide self.now.state side }
+        ensures told { result ≡ is_still_side self.now.state side }
     {
         !self.is_timed(side, Dir::Read)
             && !self.is_timed(side, Dir::Write)
@@ -118,7 +125,8 @@ impl Ctl {
 
     /// Whether the side may be in a group.
     fn is_member(&self, side: SideId) -> bool
-        ensures { result ≡ false → group_of (number side) self.now.state.groups.members ≡ None }
+        ensures free { result ≡ false → group_of (number side) self.now.state.groups.members ≡ None }
+        ensures told { result ≡ is_some (share_in (number side) dir.Read self.now.state.groups) }
     {
         self.groups.share(side.number() as u64, Dir::Read).is_some()
     }

@@ -1,6 +1,6 @@
 -- What is kept of the links stays right, step by step: a step changes one link, and that one is looked at again.
-use Rattle.std.proofs.Common.{◌≡◌, ◌≢◌, ℕ, ◌+◌, ◌<◌, ◌≤◌, Bool, true, false, ◌==◌, if◌then◌else◌, [], refl, sym, ◌∙◌, ap, subst, arith, inl}
-use Rattle.std.proofs.Common.{inr}
+use Rattle.std.proofs.Common.{◌≡◌, ◌≢◌, ℕ, ◌+◌, ◌<◌, ◌≤◌, Bool, true, false, ◌==◌, ◌||◌, if◌then◌else◌, [], refl, sym, ◌∙◌, ap}
+use Rattle.std.proofs.Common.{subst, arith, inl, inr}
 use Rattle.std.proofs.lemmas.Bool.{eqb-true, eqb-false, cases_lt}
 use Rattle.token_bucket.specs.declared.limit.Dir.TheVariants as dir
 use Rattle.ev_types.specs.declared.side.SideId.{SideId}
@@ -14,7 +14,7 @@ use Rattle.relay_drive.specs.declared.agenda.Agenda.{Agenda}
 use Rattle.relay_drive.specs.declared.naming.Naming.{Naming}
 use Rattle.relay_drive.specs.Links.{SameLink, HasPairs, IsStill, IsSettled, at_time}
 use Rattle.relay_drive.specs.Agenda.{IsNamed, IsNamedRight, HoldsBeside, IsGone, IsKept, TouchedBut}
-use Rattle.relay_drive.specs.Agenda.{TouchedEach, IsCovered, ClosingNoted}
+use Rattle.relay_drive.specs.Agenda.{TouchedEach, HasBoth, NamesEach, IsCovered, ClosingNoted}
 use Rattle.relay_drive.specs.Agenda.{IsUntold, SameBesideWants, WouldSayOf, KeepsNames}
 use Rattle.ev_types.specs.Trace.{Trace}
 use Rattle.ev_port.specs.declared.port.Want.{Want}
@@ -129,15 +129,23 @@ names-beside l l' s want = λ table h. record {
   named = subst (λ z. HoldsBeside z (IsNamedRight table) s) (sym want) h.named;
 }
 
+neither : (a b : Bool) → a || b ≡ false → (b ≡ false) × (a ≡ false)
+neither false b h = (h, refl)
+neither true b h = no_false h
+
+-- what is not in both sets together is in neither
+pub both-out : (set : NumberSetValue) (to : ℕ) (old new : NumberSetValue) → HasBoth set to old new → (n : ℕ) → n < to →
+    new.has n ≡ false → (set.has n ≡ false) × (old.has n ≡ false)
+both-out set to old new h n lt out = neither (old.has n) (set.has n) (sym (h.0 n lt) ∙ out)
+
 -- Links of a set are looked at, and at the others the step changed nothing.
 module _ (set : NumberSetValue) (l l' : Agenda) (s s' : State) (opened : s'.plain.opened ≡ s.plain.opened)
     (t : TouchedEach set s'.plain.opened l l') where
-  beside-each : (P : State → ℕ → Type 0) (old new : NumberSetValue) →
-      ((n : ℕ) → n < s'.plain.opened → new.has n ≡ false → (set.has n ≡ false) × (old.has n ≡ false)) →
+  beside-each : (P : State → ℕ → Type 0) (old new : NumberSetValue) → HasBoth set s'.plain.opened old new →
       ((n : ℕ) → n < s'.plain.opened → set.has n ≡ false → P s n → P s' n) → HoldsBeside old P s → HoldsBeside new P s'
   beside-each P old new touched keeps h = λ n lt out.
-      let both = touched n lt out in
-      keeps n lt both.0 (h n (subst (λ m. n < m) opened lt) both.1)
+      let out-of = both-out set s'.plain.opened old new touched n lt out in
+      keeps n lt out-of.0 (h n (subst (λ m. n < m) opened lt) out-of.1)
 
   pub kept-each : ((n : ℕ) → n < s'.plain.opened → set.has n ≡ false → SameLink n s s') → IsKept l s → IsKept l' s'
   kept-each same h = record {
@@ -293,27 +301,49 @@ pub up-next : (P : ℕ → Type 0) (from to : ℕ) → ((k : ℕ) → k < from �
 up-next P from to below between own = λ k lt.
     by_same k to (λ e t. subst P (sym e) own) (λ e t. up-all P from to below between k (omega (arith, lt, e)))
 
--- What is not in the new set was not in the old one, and is below a number only if it is not in the set of which all is looked at.
-abbrev pub IsTouchedTo : NumberSetValue → ℕ → NumberSetValue → NumberSetValue → Type 0
-IsTouchedTo set to old new = (n : ℕ) → new.has n ≡ false → (old.has n ≡ false) × (n < to → set.has n ≡ false)
+or-none : (b : Bool) → b || false ≡ b
+or-none false = refl
+or-none true = refl
 
-pub touched-none : (set old : NumberSetValue) → IsTouchedTo set 0 old old
-touched-none set old n out = (out, λ lt. absurd (omega (arith, lt)))
+or-own : (b : Bool) → b || true ≡ true
+or-own false = refl
+or-own true = refl
+
+-- What a set has from the numbers below one, and from those up to another where there is none.
+
+pub touched-none : (set old : NumberSetValue) → HasBoth set 0 old old
+touched-none set old = (λ n lt. absurd (omega (arith, lt)), λ n le. refl)
+
+pub touched-all : (set old new : NumberSetValue) (from to : ℕ) → from ≤ to → IsUntold set from to → HasBoth set from old new →
+    HasBoth set to old new
+touched-all set old new from to le rest h = (
+  λ n lt. elim (cases_lt n from) [
+    | inl less ↦ h.0 n less
+    | inr more ↦ h.1 n more ∙ sym (ap (λ z. old.has n || z) (rest n more lt) ∙ or-none (old.has n))
+  ],
+  λ n more. h.1 n (omega (arith, le, more)),
+)
 
 pub touched-next : (set old mid new : NumberSetValue) (from k : ℕ) → ((n : ℕ) → new.has n ≡ (if n == k then true else mid.has n)) →
-    IsUntold set from k → IsTouchedTo set from old mid → IsTouchedTo set (k + 1) old new
-touched-next set old mid new from k has between h n out =
-    by_same n k
-    (λ e t. no_false (sym (has n ∙ ap (λ z. if z then true else mid.has n) t) ∙ out))
-    (λ e t.
-    let was = h n (sym (has n ∙ ap (λ z. if z then true else mid.has n) t) ∙ out) in
-    (was.0, λ lt. elim (cases_lt n from) [ inl less ↦ was.1 less | inr more ↦ between n more (omega (arith, lt, e)) ]))
+    from ≤ k → set.has k ≡ true → IsUntold set from k → HasBoth set from old mid → HasBoth set (k + 1) old new
+touched-next set old mid new from k has le own between h =
+    let upto = touched-all set old mid from k le between h in (
+      λ n lt. by_same n k
+          (λ e t. has n ∙ ap (λ z. if z then true else mid.has n) t
+          ∙ sym (ap (λ j. old.has n || set.has j) e ∙ ap (λ z. old.has n || z) own ∙ or-own (old.has n)))
+          (λ e t. has n ∙ ap (λ z. if z then true else mid.has n) t ∙ upto.0 n (omega (arith, lt, e))),
+      λ n more. by_same n k
+          (λ e t. absurd (omega (arith, more, e)))
+          (λ e t. has n ∙ ap (λ z. if z then true else mid.has n) t ∙ upto.1 n (omega (arith, more))),
+    )
 
-pub touched-all : (set old new : NumberSetValue) (from opened : ℕ) → IsUntold set from opened → IsTouchedTo set from old new → (n : ℕ) →
-    n < opened → new.has n ≡ false → (set.has n ≡ false) × (old.has n ≡ false)
-touched-all set old new from opened rest h n lt out =
-    let was = h n out in
-    (elim (cases_lt n from) [ inl less ↦ was.1 less | inr more ↦ rest n more lt ], was.0)
+-- a link of which the table is not to be looked at is none of those that are told
+pub names-out : (told : Bool) (set : NumberSetValue) (opened : ℕ) (old new : Agenda) → NamesEach told set opened old new → (n : ℕ) →
+    n < opened → new.to_name.has n ≡ false → (told ≡ true → set.has n ≡ false) × (old.to_name.has n ≡ false)
+names-out false set opened old new h n lt out =
+    (λ wrong. absurd (cc), sym (ap (λ (z : NumberSetValue). z.has n) (h.still refl)) ∙ out)
+names-out true set opened old new h n lt out =
+    let both = both-out set opened old.to_name new.to_name (h.to_name refl) n lt out in (λ _. both.0, both.1)
 
 -- the sets but that of wants stay, and so does what they say
 pub kept-beside_wants : (l l' : Agenda) (s : State) → SameBesideWants l l' → IsKept l s → IsKept l' s

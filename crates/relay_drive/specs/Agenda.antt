@@ -1,6 +1,6 @@
 -- What a drive keeps of its links from turn to turn: at which of them passing and closing have something to do, which are open, and
 -- of which sides the table of wants must be looked at. A set may hold too much, and never too little.
-use Rattle.std.specs.Prelude.{◌≡◌, ℕ, ◌<◌, ◌≤◌, Bool, true, false, ◌==◌, if◌then◌else◌}
+use Rattle.std.specs.Prelude.{◌≡◌, ℕ, ◌<◌, ◌≤◌, Bool, true, false, ◌==◌, ◌||◌, if◌then◌else◌}
 use Rattle.token_bucket.specs.declared.limit.Dir.TheVariants as dir
 use Rattle.ev_types.specs.declared.side.SideId.{SideId}
 use Rattle.ev_types.specs.Sides.{number}
@@ -78,6 +78,13 @@ Touched k old new = TouchedBut true k old new
 abbrev pub HasPlace : ℕ → Agenda → Type 0
 HasPlace k l = (k < l.to_pass.len) × (k < l.to_close.len) × (k < l.to_name.len) × (k < l.maybe_open.len)
 
+-- Where passing changed nothing at a link, it isn't looked at again; else all is looked at.
+abbrev pub PassingNoted : ℕ → Bool → Agenda → Agenda → Type 0
+PassingNoted k false old new = (new.to_pass.len ≡ old.to_pass.len) ×
+    ((n : ℕ) → new.to_pass.has n ≡ (if n == k then false else old.to_pass.has n))
+    × (new.to_close ≡ old.to_close) × (new.to_name ≡ old.to_name) × (new.maybe_open ≡ old.maybe_open)
+PassingNoted k true old new = Touched k old new
+
 -- Where closing found nothing to do at a link, it isn't looked at again; else all is looked at, and it is among the open ones where it
 -- is open.
 abbrev pub ClosingNoted : State → ℕ → Bool → Agenda → Agenda → Type 0
@@ -103,26 +110,32 @@ pub record IsCovered (k : ℕ) (old new : Agenda) : Type 0 where
   pub to_name : Covers k old.to_name new.to_name
   pub maybe_open : Covers k old.maybe_open new.maybe_open
 
+-- Of the numbers below one a set has what it had and what another set has, and of the others what it had.
+abbrev pub HasBoth : NumberSetValue → ℕ → NumberSetValue → NumberSetValue → Type 0
+HasBoth set to old new =
+    ((n : ℕ) → n < to → new.has n ≡ (old.has n || set.has n)) × ((n : ℕ) → to ≤ n → new.has n ≡ old.has n)
+
 -- The opened links that are in a set are in all sets, and whatever was in one is in it.
 pub record TouchedEach (set : NumberSetValue) (opened : ℕ) (old new : Agenda) : Type 0 where
   pub pass_len : new.to_pass.len ≡ old.to_pass.len
   pub close_len : new.to_close.len ≡ old.to_close.len
   pub want_len : new.to_name.len ≡ old.to_name.len
   pub live_len : new.maybe_open.len ≡ old.maybe_open.len
-  pub to_pass : (n : ℕ) → n < opened → new.to_pass.has n ≡ false → (set.has n ≡ false) × (old.to_pass.has n ≡ false)
-  pub to_close : (n : ℕ) → n < opened → new.to_close.has n ≡ false → (set.has n ≡ false) × (old.to_close.has n ≡ false)
-  pub to_name : (n : ℕ) → n < opened → new.to_name.has n ≡ false → (set.has n ≡ false) × (old.to_name.has n ≡ false)
-  pub maybe_open : (n : ℕ) → n < opened → new.maybe_open.has n ≡ false → (set.has n ≡ false) × (old.maybe_open.has n ≡ false)
+  pub to_pass : HasBoth set opened old.to_pass new.to_pass
+  pub to_close : HasBoth set opened old.to_close new.to_close
+  pub to_name : HasBoth set opened old.to_name new.to_name
+  pub maybe_open : HasBoth set opened old.maybe_open new.maybe_open
 
 -- only the set of wants to be looked at may have changed, and it is as long
 abbrev pub SameBesideWants : Agenda → Agenda → Type 0
 SameBesideWants old new = (new.to_pass ≡ old.to_pass) × (new.to_close ≡ old.to_close) × (new.maybe_open ≡ old.maybe_open) ×
     (new.to_name.len ≡ old.to_name.len)
 
--- Where that is told, the set of wants to be looked at has all opened links of another set, beside what it had. The other sets stay.
+-- Where that is told, the set of wants to be looked at has all opened links of another set, beside what it had. All else stays.
 pub record NamesEach (told : Bool) (set : NumberSetValue) (opened : ℕ) (old new : Agenda) : Type 0 where
   pub same : SameBesideWants old new
-  pub to_name : (n : ℕ) → n < opened → new.to_name.has n ≡ false → (told ≡ true → set.has n ≡ false) × (old.to_name.has n ≡ false)
+  pub to_name : told ≡ true → HasBoth set opened old.to_name new.to_name
+  pub still : told ≡ false → new.to_name ≡ old.to_name
 
 -- What was kept is kept, of every table too: from a state and the sets that stood for it to another state and its sets.
 abbrev pub KeepsNames : Agenda → State → Agenda → State → Type 0

@@ -1,6 +1,7 @@
 // Passing both directions of each link at which passing may have something to do.
-ghost use Rattle.std.specs.Prelude.{◌≡◌, ◌<◌, false, [], MatchResult, OnOk, Ok};
-ghost use Rattle.relay_drive.specs.Agenda.{IsKept, KeepsNames};
+ghost use Rattle.std.specs.Prelude.{◌≡◌, ◌<◌, Bool, false, [], MatchResult, OnOk, Ok};
+ghost use Rattle.relay_core.specs.BothPassed.{PassedBoth};
+ghost use Rattle.relay_drive.specs.Agenda.{IsKept, KeepsNames, PassingNoted};
 ghost use Rattle.relay_drive.specs.Moves.{OnlyForMemory};
 ghost use Rattle.relay_drive.specs.Phases.{PassesLink, CutPassingLink, ForAllLinks, CutForAllLinks};
 
@@ -21,6 +22,8 @@ fn pass_next(relay: &mut Relay, agenda: &mut Agenda, link: u32) -> Result<(), Dr
     ensures cause { OnlyForMemory result }
     ensures kept { OnOk result (IsKept agenda.new relay.new.state) }
     ensures names { OnOk result (KeepsNames agenda.old relay.old.state agenda.new relay.new.state) }
+    ensures noted { OnOk result ((changed : Bool) × PassedBoth relay.old.state link changed relay.new.state
+        × PassingNoted link changed agenda.old agenda.new) }
 {
     if relay.pass_link(link)? {
         agenda.touch(link);

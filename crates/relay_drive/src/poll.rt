@@ -7,7 +7,7 @@ ghost use Rattle.ev_port.specs.Table.{named, RowsStay};
 ghost use Rattle.relay_drive.specs.Phases.{wanted, CutPoll, CutPolling, AllOpened};
 ghost use Rattle.relay_drive.specs.Known.{Point, begun_if};
 ghost use Rattle.relay_drive.specs.Links.{WantsAsSeen};
-ghost use Rattle.relay_drive.specs.Agenda.{IsKept, IsNamed, CountsAreFew, SameBesideWants};
+ghost use Rattle.relay_drive.specs.Agenda.{IsKept, IsNamed, IsUntold, CountsAreFew, SameBesideWants};
 ghost use Rattle.relay_drive.specs.Naming.{NamedSide, NamedLink, OldRowsStay};
 ghost use Rattle.relay_drive.specs.PollPhase.{PollsListed, PollsAndAcceptsListed};
 ghost use Rattle.relay_drive.specs.Moves.{Moves, GetsTo, OnlyForMemory};
@@ -67,6 +67,7 @@ fn name_wants(relay: &Relay, agenda: &mut Agenda, naming: &mut Naming) -> Result
     ensures named { OnOk result (named naming.new.table ≡ wanted relay.now.state) }
     ensures right { OnOk result (IsNamed agenda.new naming.new relay.now.state) }
     ensures same { SameBesideWants agenda.old agenda.new }
+    ensures none_left { OnOk result (IsUntold agenda.new.to_name 0 relay.now.state.plain.opened) }
     ensures cause { OnlyForMemory result }
     ensures there { naming.old.table.links ≡ relay.now.state.plain.opened → IsOk result }
 {
@@ -110,7 +111,8 @@ fn put_marks<S: Scribe>(entries: &mut u64, scribe: &mut S, wants: &[Want])
 
 /// For how many entries there must be room: a want and a mark of each side, and two.
 fn most_entries(wants: &WantTable) -> usize
-    ensures { 2 * length (named wants.now) + 2 ≤ result }
+    ensures room { 2 * length (named wants.now) + 2 ≤ result }
+    ensures no_more { result ≡ 4 * wants.now.links + 2 }
 {
     4 * wants.links() as usize + 2
 }

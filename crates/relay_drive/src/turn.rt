@@ -6,7 +6,7 @@ ghost use Rattle.relay_drive.specs.declared.fault.TurnEnd.TheVariants.{Went};
 ghost use Rattle.relay_drive.specs.Steps.{Nothing};
 ghost use Rattle.relay_drive.specs.Phases.{TicksOnce, ServedThen, CutStart, PassesAndCloses, CutFinish};
 ghost use Rattle.relay_drive.specs.Known.{Point};
-ghost use Rattle.relay_core.specs.Timeless.{AreLeftAlikeBeside};
+ghost use Rattle.relay_core.specs.Timeless.{AreLeftAlikeBeside, WatchesNoStill};
 ghost use Rattle.relay_drive.specs.Links.{SameLink, IsTimelessLink, WantsAsSeen, at_time};
 ghost use Rattle.relay_drive.specs.Agenda.{HoldsBeside, LinkCountsAreFew, CountsAreFew, IsKept, IsNamed, KeepsNames};
 ghost use Rattle.ev_types.specs.Trace.{Trace};
@@ -56,7 +56,8 @@ fn read_clock<P: Port, S: Scribe>(
 }
 
 /// Reads the port's clock once. Every link is to be looked at then at which a side has a timeout, or what its limit leaves it may have
-/// changed; and what the sides of links with members want, if a group was suspended or goes on since that was noted.
+/// changed; and what the sides of links with members want, if a group was suspended or goes on since that was noted. No link is watched
+/// further that has no timeout.
 fn clock<P: Port, S: Scribe>(
     run: &mut Run,
     agenda: &mut Agenda,
@@ -78,6 +79,7 @@ fn clock<P: Port, S: Scribe>(
     ensures named { OnOk result (IsNamed agenda.new naming.new run.new.relay.state) }
     ensures seen { OnOk result (WantsAsSeen naming.new.seen.items run.new.relay.state) }
     ensures few { OnOk result (CountsAreFew run.old.relay.state → CountsAreFew run.new.relay.state) }
+    ensures rests { OnOk result (WatchesNoStill run.new.relay) }
 {
     let known = run.relay.lengthen_halts(&mut naming.seen)?;
     read_clock(run, port, scribe)?;

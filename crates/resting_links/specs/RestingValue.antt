@@ -1,6 +1,7 @@
 -- What a contract sees of the links that are watched and of when the others are to be: which are watched, and for each side by its number
 -- when its link is to be watched again.
-use Rattle.std.specs.Prelude.{◌≡◌, ◌≢◌, ℕ, ◌+◌, ◌*◌, ◌==◌, ◌≤◌, false, if◌then◌else◌, List, length, Option, Some, None, MatchOption}
+use Rattle.std.specs.Prelude.{◌≡◌, ◌≢◌, ℕ, ◌+◌, ◌*◌, ◌==◌, ◌≤◌, nat_le, Bool, false, ◌||◌, if◌then◌else◌, List, length, Option, Some, None}
+use Rattle.std.specs.Prelude.{MatchOption}
 use Rattle.ev_types.specs.declared.side.SideId.{SideId}
 use Rattle.ev_types.specs.Sides.{number}
 use Rattle.next_moments.specs.Earliest.{moment_for}
@@ -25,6 +26,15 @@ pub record Wakes (old new : RestingValue) : Type 0 where
   pub grew : (n : ℕ) → new.watched.has n ≡ false → old.watched.has n ≡ false
   pub kept : (e : SideId) → new.watched.has e.link ≡ false → side_moment new e ≡ side_moment old e
   pub none : (i : ℕ) → moment_for old.moments i ≡ None → moment_for new.moments i ≡ None
+
+-- a moment came, where there is one
+abbrev pub has_come : Option ℕ → ℕ → Bool
+has_come None time = false
+has_come (Some moment) time = nat_le moment time
+
+-- a side of this link has a moment that came
+abbrev pub link_has_come : RestingValue → ℕ → ℕ → Bool
+link_has_come r time link = has_come (moment_for r.moments (2 * link)) time || has_come (moment_for r.moments (2 * link + 1)) time
 
 -- One link is watched no more, and its sides have these moments. All else stays.
 pub record Rests (link : ℕ) (first second : Option ℕ) (old new : RestingValue) : Type 0 where

@@ -1,7 +1,7 @@
 // The links that are watched, and the moments of the sides of the others.
-ghost use Rattle.std.specs.Prelude.{◌≡◌, ℕ, ◌+◌, ◌^◌, ◌≤◌, [], true, false, OnOk, IsOk};
+ghost use Rattle.std.specs.Prelude.{◌≡◌, ℕ, ◌+◌, ◌^◌, ◌≤◌, ◌==◌, ◌||◌, [], true, false, if◌then◌else◌, OnOk, IsOk};
 ghost use Rattle.next_moments.specs.Earliest.{NoneIsDue};
-ghost use Rattle.resting_links.specs.RestingValue.{HasPlaces, Wakes, Rests, Lengthens, IsFirstMoment};
+ghost use Rattle.resting_links.specs.RestingValue.{HasPlaces, Wakes, Rests, Lengthens, IsFirstMoment, link_has_come};
 
 use ev_types::NoMemory;
 use next_moments::Moments;
@@ -81,6 +81,7 @@ impl RestingLinks {
         requires { HasPlaces (link + 1) self.old }
         ensures more { Wakes self.old self.new }
         ensures there { self.new.watched.has link ≡ true }
+        ensures no_other { (n : ℕ) → self.new.watched.has n ≡ (if n == link then true else self.old.watched.has n) }
     {
         self.watched.insert(link);
         self.moments.set(2 * link, None);
@@ -107,6 +108,7 @@ impl RestingLinks {
     pub fn wake(&mut self, time: u64)
         ensures more { Wakes self.old self.new }
         ensures none_due { NoneIsDue self.new.moments time }
+        ensures due { (n : ℕ) → self.new.watched.has n ≡ (self.old.watched.has n || link_has_come self.old time n) }
     {
         while let Some(number) = self.moments.take_due(time) {
             self.watch(number / 2);

@@ -1,4 +1,4 @@
-use Rattle.std.proofs.Common.{true, Ok, refl, sym, ◌∙◌, ap, subst}
+use Rattle.std.proofs.Common.{false, true, Ok, refl, sym, ◌∙◌, ap, subst}
 use Rattle.std.proofs.lemmas.Result.{err_from_is_err_and}
 use Rattle.relay_state.specs.State.{State}
 use Rattle.relay_core.specs.BothPassed.{PassedBoth}
@@ -69,3 +69,19 @@ returns-else-branch-clause-names c =
     let new = c.pass_link.new.self.state in
     let passed = subst (λ b. PassedBoth s c.args.link b new) c.if-branch.false c.in_ok-pass_link.ensures.passed in
     subst (KeepsNames c.args.agenda.now s _) (sym (passed.3.1 ∙ passed.3.0)) (names-beside c.args.agenda.now _ s refl)
+
+pub returns-then-branch-clause-noted : goal.returns-then-branch-clause-noted
+returns-then-branch-clause-noted c = (
+  true,
+  subst (λ b. PassedBoth c.args.relay.now.state c.args.link b c.pass_link.new.self.state) c.if-branch.true
+      c.in_ok-pass_link.ensures.passed,
+  c.touch.ensures,
+)
+
+pub returns-else-branch-clause-noted : goal.returns-else-branch-clause-noted
+returns-else-branch-clause-noted c = (
+  false,
+  subst (λ b. PassedBoth c.args.relay.now.state c.args.link b c.pass_link.new.self.state) c.if-branch.false
+      c.in_ok-pass_link.ensures.passed,
+  (c.remove.ensures.len, c.remove.ensures.members, refl, refl, refl),
+)

@@ -1,7 +1,8 @@
-use Rattle.std.proofs.Common.{◌<◌, refl, ◌∙◌, arith}
+use Rattle.std.proofs.Common.{◌<◌, if◌then◌else◌, false, refl, ◌∙◌, ap, inl, inr, arith}
+use Rattle.std.proofs.lemmas.Bool.{cases_lt}
 use Rattle.relay_state.specs.Closing.{in_side, out_side}
 use Rattle.relay_drive.specs.Agenda.{SaysOf}
-use Rattle.relay_drive.proofs.AgendaLemmas.{up-all}
+use Rattle.relay_drive.proofs.AgendaLemmas.{up-all, by_same}
 use Rattle.relay_drive.proofs.TableLemmas.{named-wanted, named-next, said-next, says-of, named-lengthened}
 use Rattle.relay_drive.proofs.poll.name_wants.Goals as goal
 
@@ -12,6 +13,7 @@ loop-link-init c = record {
   named = named-lengthened c.args.naming.now c.lengthen.new.wants c.args.agenda.now.to_name c.args.relay.now.state
       c.in_ok-lengthen.ensures.rows c.requires.named.named;
   same = (refl, refl, refl, refl);
+  looked = λ k from lt. absurd (omega (arith, lt));
   within = omega arith;
   said = λ k a. absurd (omega (arith, a));
 }
@@ -30,10 +32,21 @@ loop-link-preserved c =
       named = named-next naming c.name_link.new.wants c.loop-link.agenda.to_name c.remove.new.self s k inv.seen
           (omega (arith, lt, inv.links)) c.name_link.ensures c.remove.ensures.members (c.requires.few k lt) inv.named;
       same = (inv.same.0, inv.same.1, inv.same.2, c.remove.ensures.len ∙ inv.same.3);
+      looked = λ j from under. by_same j k
+          (λ e t. c.remove.ensures.members j ∙ ap (λ z. if z then false else c.loop-link.agenda.to_name.has j) t)
+          (λ e t. c.remove.ensures.members j ∙ ap (λ z. if z then false else c.loop-link.agenda.to_name.has j) t
+          ∙ elim (cases_lt j c.loop-link.from) [ inl less ↦ inv.looked j from less | inr more ↦ found.3 j more (omega (arith, under, e)) ]);
       within = omega (arith, lt);
       said = said-next naming.table c.name_link.new.wants s c.loop-link.from k c.name_link.ensures inv.said
           (λ j le under. says-of naming s j inv.seen (inv.named j (omega (arith, under, lt)) (found.3 j le under)));
     }
+
+pub returns-clause-none_left : goal.returns-clause-none_left
+returns-clause-none_left c = λ k from lt.
+    elim (cases_lt k c.loop-link.from) [
+      | inl less ↦ c.loop-link.invariant.looked k from less
+      | inr more ↦ c.in_default.ensures k more (let count = c.opened.ensures.count in omega (arith, lt, count))
+    ]
 
 pub returns-clause-named : goal.returns-clause-named
 returns-clause-named c =

@@ -1,6 +1,6 @@
 use Rattle.std.proofs.Common.{◌≡◌, ℕ, ◌<◌, ◌-◌, ◌≤◌}
 use Rattle.relay_state.specs.Closing.{in_side, out_side}
-use Rattle.relay_drive.specs.Agenda.{HoldsBeside, IsNamedRight, SaysOf, SameBesideWants}
+use Rattle.relay_drive.specs.Agenda.{HoldsBeside, IsNamedRight, SaysOf, SameBesideWants, IsUntold}
 use Rattle.relay_drive.specs.Links.{WantsAsSeen}
 use Rattle.relay_drive.proofs.poll.name_wants.Given as goal
 
@@ -10,6 +10,7 @@ invariant-loop-link l = record {
   seen : WantsAsSeen l.naming.seen.items l.relay.state;
   named : HoldsBeside l.agenda.to_name (IsNamedRight l.naming) l.relay.state;
   same : SameBesideWants l.fn.agenda l.agenda;
+  looked : IsUntold l.agenda.to_name 0 l.from;
   within : l.from ≤ l.relay.state.plain.opened;
   said : (k : ℕ) → k < l.from → SaysOf l.naming.table l.relay.state (in_side k) × SaysOf l.naming.table l.relay.state (out_side k);
 }

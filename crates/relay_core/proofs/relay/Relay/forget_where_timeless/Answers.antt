@@ -25,9 +25,9 @@ invariant_of-self-inside c =
           c.gains_at-far_gain.result refl
           (subst (λ (z : RelayValue). c.args.link < z.state.plain.opened)
           (sym (is ∙ c.forget_members.ensures ∙ c.self.view_is)) c.requires) c.rest.ensures
-          (resting_by r h near c.gains_at-gain.result v is (c.if-is_timeless.ensures refl) c.gains_at-gain.ensures)
+          (resting_by r h near c.gains_at-gain.result v is (c.if-is_timeless.ensures.still refl) c.gains_at-gain.ensures)
           (resting_by r h (peer near) c.gains_at-far_gain.result v is
-          (subst (IsStillSide v.state) c.peer.ensures (c.if-is_timeless-2.ensures refl))
+          (subst (IsStillSide v.state) c.peer.ensures (c.if-is_timeless-2.ensures.still refl))
           (c.gains_at-far_gain.ensures ∙ ap (λ e. side_gains v.state.plain.time (side_at v.state.plain e) (gauge_at v.state e))
           c.peer-then-is_timeless-2.ensures));
       grouping = h.grouping;
