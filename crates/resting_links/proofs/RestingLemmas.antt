@@ -145,7 +145,8 @@ due-woken a b c i m time same taken p has stands came n = elim (eqb_tells n (i /
               | inr there ↦ ap (λ z. if z then None else moment_for a.moments (number e)) there.0
             ]
 
-    other : n ≢ i / 2 → c.watched.has n ≡ a.watched.has n → c.watched.has n || link_has_come c time n ≡ a.watched.has n || link_has_come a time n
+    other : n ≢ i / 2 → c.watched.has n ≡ a.watched.has n →
+        c.watched.has n || link_has_come c time n ≡ a.watched.has n || link_has_come a time n
     other apart is = by (c.watched.has n) refl
       where
         by : (w : Bool) → c.watched.has n ≡ w → c.watched.has n || link_has_come c time n ≡ a.watched.has n || link_has_come a time n
