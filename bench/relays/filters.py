@@ -1,10 +1,10 @@
 #!/usr/bin/env python3
 """Prints what filters cost evrelay: processor seconds a GiB that is sent, and how many times those of a link without filters.
 
-  filters.py PROGRAM [--mib N] [--reps N]
+  filters.py PROGRAM [--mib N] [--reps N] [--kinds none,to-crlf..]
 
 PROGRAM is evrelay.  One link carries N MiB (256) of lines of text one way, and every byte that arrives is compared.  The kinds
-of filters are taken in turn, and the middle of the repetitions is shown."""
+of filters, of which none is one, are taken in turn, and the middle of the repetitions is shown."""
 import argparse, os, random, socket, statistics, subprocess, sys, threading, time
 
 WORDS = 'the relay passes each byte of a line and an end of it as it stands in the text of a page'.split()
@@ -80,14 +80,16 @@ def main():
     words.add_argument('program')
     words.add_argument('--mib', type=int, default=256)
     words.add_argument('--reps', type=int, default=3)
+    words.add_argument('--kinds', default=','.join(KINDS))
     args = words.parse_args()
+    kinds = args.kinds.split(',')
     text = lines()
     ended = text.replace(b'\n', b'\r\n')
     bytes_of = {'to-crlf': (text, ended), 'to-lf': (ended, text)}
-    costs = {kind: [] for kind in KINDS}
+    costs = {kind: [] for kind in kinds}
     for _ in range(args.reps):
-        for kind, options in KINDS.items():
-            costs[kind].append(cost(args.program, options, *bytes_of.get(kind, (text, text)), args.mib))
+        for kind in kinds:
+            costs[kind].append(cost(args.program, KINDS[kind], *bytes_of.get(kind, (text, text)), args.mib))
     for kind, found in costs.items():
         times = [a / b for a, b in zip(found, costs['none'])]
         print(f'{kind:14} {statistics.median(found):6.2f} s a GiB, {statistics.median(times):5.2f} times ({min(times):.2f} to {max(times):.2f})')
